@@ -1,0 +1,4 @@
+pub mod RangeLemmas
+pub mod Rules
+pub mod Spelling
+pub mod Writes

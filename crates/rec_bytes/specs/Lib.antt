@@ -1,0 +1,4 @@
+pub mod Configuration
+pub mod Places
+pub mod Ranges
+pub mod Views
