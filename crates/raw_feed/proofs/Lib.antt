@@ -1,0 +1,9 @@
+pub mod BreakLemmas
+pub mod EndingLemmas
+pub mod FeedLemmas
+pub mod HeadLemmas
+pub mod Moves
+pub mod PartLemmas
+pub mod ReadingLemmas
+pub mod SplitLemmas
+pub mod UnitLemmas

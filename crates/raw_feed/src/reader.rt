@@ -1,0 +1,158 @@
+ghost use Rattle.std.specs.Prelude.{◌≡◌, ◌≤◌, ◌<◌, ◌+◌, true, false, IfOk, IfErr, IfSome, IfNone};
+ghost use Rattle.std.specs.Bool.{OnTrue, OnFalse};
+ghost use Rattle.rec_bytes.specs.Views.{view};
+ghost use Rattle.raw_feed.specs.Breaks.{HasFeedCause};
+ghost use Rattle.raw_feed.specs.Refusals.{IsHeadFault};
+ghost use Rattle.raw_feed.specs.Reading.{ReadsHead, BreaksHead, IfTold, HasReaderCause};
+ghost use Rattle.raw_feed.specs.Reading.{GivesUnit, EndsClean, RefusesItem, GivesMarker, RefusesMarker};
+
+use crate::fault::FeedFault;
+use crate::head::read_head;
+use crate::layout::HEAD_LEN;
+use crate::source::{Feed, Source};
+use crate::stage::Stage;
+use crate::unit::{read_item, read_marker};
+use rec_bytes::Config;
+use std::alloc::Global;
+use std::marker::{Model, PhantomData};
+
+/// What the items of a feed are.
+#[derive(Clone, Copy, Debug, PartialEq, Eq)]
+pub enum Kind {
+    /// Finished frames.
+    Units,
+}
+
+/// A reader of a feed, item by item. It keeps no byte of the feed: what it has read is what its
+/// source has given.
+#[derive(Drop)]
+pub struct FeedReader<N: Feed> {
+    config: Config,
+    count: u64,
+    at: u64,
+    stage: Stage,
+    of: PhantomData<N>,
+}
+
+impl<N: Feed> Model for FeedReader<N> {
+    ghost use Rattle.std.specs.Prelude.{◌≤◌, ◌+◌, ◌≡◌};
+    ghost use Rattle.rec_bytes.specs.Views.{view as fields_in};
+    ghost use Rattle.raw_feed.specs.Reading.{Reading};
+    ghost use Rattle.raw_feed.specs.declared.layout.TheConstants.{MAX_FEED};
+    ghost use Rattle.raw_feed.specs.declared.stage.Stage.TheVariants.{Marked};
+
+    ghost Value = { Reading };
+
+    ghost view = { λ r.
+        record { config = fields_in r.config; count = r.count; at = r.at; stage = r.stage } };
+
+    ghost invariant = { λ r.
+        (r.at ≤ MAX_FEED) × (r.count ≤ r.config.max_frames)
+        × (r.stage ≡ Marked → r.at + 4 ≤ MAX_FEED) };
+}
+
+impl<N: Feed> FeedReader<N> {
+    /// Reads the head of a feed whose items are of this kind.
+    pub fn new<S: Source<N>>(kind: Kind, source: &mut S) -> Result<Self, FeedFault>
+        ensures head { IfOk result (λ reader.
+            ReadsHead reader (S.told source.old) (S.told source.new)) }
+        ensures refused { IfErr result (λ fault.
+            IsHeadFault fault × IfTold (S.told source.old) (S.told source.new)
+            (λ before. BreaksHead before (S.told source.new) fault)) }
+        ensures cause { HasFeedCause (S.fault_count source.old) (S.fault_count source.new) result }
+    {
+        match kind {
+            Kind::Units => {
+                let config = read_head(source)?;
+                Ok(FeedReader {
+                    config,
+                    count: 0,
+                    at: HEAD_LEN as u64,
+                    stage: Stage::Open,
+                    of: PhantomData,
+                })
+            }
+        }
+    }
+
+    /// The feed's configuration.
+    pub fn config(&self) -> &Config
+        ensures { view result.now ≡ self.now.config }
+    {
+        &self.config
+    }
+
+    /// Whole items read so far.
+    pub fn read_count(&self) -> u64
+        ensures { result ≡ self.now.count }
+    {
+        self.count
+    }
+
+    /// Reads the marker of the next item, unless it was read, and answers false at the end after a
+    /// whole item.
+    pub fn marker<S: Source<N>>(&mut self, source: &mut S) -> Result<bool, FeedFault>
+        ensures marked { IfOk result (λ more. OnTrue more (
+            GivesMarker self.old.stage self.old self.new (S.told source.old) (S.told source.new))) }
+        ensures ended { IfOk result (λ more. OnFalse more (
+            EndsClean self.old.stage self.old self.new (S.told source.old) (S.told source.new))) }
+        ensures refused { IfErr result (
+            RefusesMarker self.old.stage self.old self.new (S.told source.old) (S.told source.new)) }
+        ensures cause { HasReaderCause self.old.stage
+            (S.fault_count source.old) (S.fault_count source.new) result }
+    {
+        match self.stage {
+            Stage::Open => match read_marker(source, self.at) {
+                Ok(true) => {
+                    self.stage = Stage::Marked;
+                    Ok(true)
+                }
+                Ok(false) => {
+                    self.stage = Stage::Ended;
+                    Ok(false)
+                }
+                Err(fault) => {
+                    self.stage = Stage::Refused(fault);
+                    Err(fault)
+                }
+            },
+            Stage::Marked => Ok(true),
+            Stage::Ended => Ok(false),
+            Stage::Refused(fault) => Err(fault),
+        }
+    }
+
+    /// Reads the next unit, and answers none at the end after a whole item.
+    pub fn next_unit<S: Source<N>>(
+        &mut self,
+        alloc: Global,
+        source: &mut S,
+    ) -> Result<Option<Vec<u8>>, FeedFault>
+        requires { self.old.count < self.old.config.max_frames }
+        ensures unit { IfOk result (λ found. IfSome found (λ unit.
+            GivesUnit self.old.stage self.old self.new (S.told source.old) (S.told source.new)
+            unit.items)) }
+        ensures ended { IfOk result (λ found. IfNone found (
+            EndsClean self.old.stage self.old self.new (S.told source.old) (S.told source.new))) }
+        ensures refused { IfErr result (
+            RefusesItem self.old.stage self.old self.new (S.told source.old) (S.told source.new)) }
+        ensures cause { HasReaderCause self.old.stage
+            (S.fault_count source.old) (S.fault_count source.new) result }
+    {
+        if !self.marker(source)? {
+            return Ok(None);
+        }
+        match read_item(alloc, source, self.at) {
+            Ok(unit) => {
+                self.count += 1;
+                self.at += 8 + unit.len() as u64;
+                self.stage = Stage::Open;
+                Ok(Some(unit))
+            }
+            Err(fault) => {
+                self.stage = Stage::Refused(fault);
+                Err(fault)
+            }
+        }
+    }
+}
