@@ -1,0 +1,3 @@
+pub mod ReaderSteps
+pub mod WindowSteps
+pub mod WriterSteps
