@@ -1,0 +1,5 @@
+pub mod Digits
+pub mod Made
+pub mod Parsed
+pub mod Signs
+pub mod Spelled

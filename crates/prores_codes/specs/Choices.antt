@@ -1,0 +1,46 @@
+-- Which code follows which symbol (RDD 36). docs/FORMATS.md, "Codes".
+use Rattle.std.specs.Prelude.{ℕ, ◌+◌, if◌then◌else◌, nat_lt}
+use Rattle.prores_codes.specs.declared.code.Code.{Code}
+
+-- the numbers of a combination code
+pub record Parameters : Type 0 where
+  pub a : ℕ
+  pub r : ℕ
+  pub e : ℕ
+
+abbrev pub combination : ℕ → ℕ → ℕ → Parameters
+combination a r e = record { a = a; r = r; e = e }
+
+abbrev pub order : ℕ → Parameters
+order k = combination 0 k (k + 1)
+
+abbrev pub parameters : Code → Parameters
+parameters code = combination code.a code.r code.e
+
+-- the code of a DC difference, by the size of the difference before
+abbrev pub dc_parameters : ℕ → Parameters
+dc_parameters size =
+    if nat_lt size 1 then order 0
+    else if nat_lt size 2 then order 1
+    else if nat_lt size 3 then combination 1 2 3
+    else order 3
+
+-- the code of a run, by the run before
+abbrev pub run_parameters : ℕ → Parameters
+run_parameters run =
+    if nat_lt run 2 then combination 2 0 1
+    else if nat_lt run 4 then combination 1 0 1
+    else if nat_lt run 5 then order 0
+    else if nat_lt run 9 then combination 1 1 2
+    else if nat_lt run 15 then order 1
+    else order 2
+
+-- the code of a size less one, by the size less one before
+abbrev pub level_parameters : ℕ → Parameters
+level_parameters level =
+    if nat_lt level 1 then combination 2 0 2
+    else if nat_lt level 2 then combination 1 0 1
+    else if nat_lt level 3 then combination 2 0 1
+    else if nat_lt level 4 then order 0
+    else if nat_lt level 8 then order 1
+    else order 2

@@ -1,0 +1,9 @@
+pub mod Choices
+pub mod Codes
+pub mod Folded
+pub mod Forms
+pub mod Spellings
+pub use Rattle.bit_io.specs.Bits
+pub use Rattle.bit_io.specs.Laws
+pub use Rattle.bit_io.specs.Read
+pub use Rattle.bit_io.specs.Written

@@ -1,0 +1,10 @@
+use thiserror::Error;
+
+/// Why bits don't begin with a code.
+#[derive(Clone, Copy, Debug, PartialEq, Eq, Error)]
+pub enum CodeFault {
+    #[error("the code at bit {at} has more than 32 bits")]
+    TooLong { at: u64 },
+    #[error("the bits end inside the code at bit {at}")]
+    BitsEnd { at: u64 },
+}

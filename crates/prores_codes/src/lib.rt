@@ -1,0 +1,25 @@
+//! Combination codes (RDD 36): a number as zeros, a one and binary digits.
+//!
+//! The crates above rest on one contract: `write` and `read` meet one relation, `Spells`, by the two cases of the
+//! standard. `write` puts just the spelling of the number; `read` answers a number exactly where its spelling stands at
+//! the place, whatever follows. So no spelling is the beginning of another.
+//!
+//! A combination code (a, r, e) has short spellings of at most a zeros, a one and r low bits, and long ones of more
+//! zeros and then the binary digits of a number from 2^e on; order k is the code (0, k, k + 1). `fold` makes signed
+//! numbers natural ones.
+//!
+//! Not promised: spellings of more than 32 bits, which are neither written nor read.
+#![tactic(auto)]
+
+mod choice;
+mod code;
+mod fault;
+mod form;
+mod signed;
+mod spelling;
+
+pub use choice::{dc_code, first_code, level_code, run_code};
+pub use code::Code;
+pub use fault::CodeFault;
+pub use signed::{fold, unfold};
+pub use spelling::{fits, read, small_fits, write};
