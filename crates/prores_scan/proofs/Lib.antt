@@ -1,0 +1,5 @@
+pub mod ScanLemmas
+pub mod LevelLemmas
+pub mod ReciprocalLemmas
+pub mod HalfStepLemmas
+pub mod ChangeLemmas
