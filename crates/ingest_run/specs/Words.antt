@@ -1,0 +1,28 @@
+-- The words of a call (own). docs/FORMATS.md, "Words".
+use Rattle.std.specs.Prelude.{◌&&◌, ◌==◌, Bool, true, false, List, [], ◌∷◌, Option, Some, None, map, length, String, string_bytes, codes, if◌then◌else◌}
+use Rattle.std.specs.Str.{bytes_eq}
+use Rattle.clap.specs.Words.{App, new_app, fault_of}
+use Rattle.clap.specs.Walk.{Text}
+use Rattle.ingest_run.specs.declared.words.Command.{Command}
+use Rattle.ingest_run.specs.declared.words.Command.TheVariants.{Wrap}
+
+-- the bytes of each word
+abbrev pub texts : {Z : Type 0} → List (String Z) → List Text
+texts words = map (λ word. string_bytes word) words
+
+-- a command that has no help flag: help is the program's own
+abbrev pub without_help : App → App
+without_help app = record app { top = record app.top { disable_help_flag = true } }
+
+-- `wrap` has no options
+abbrev pub wrap : App
+wrap = without_help (new_app (codes "wrap"))
+
+-- the words call the command: the first is its name, and it takes those behind
+unfoldable pub is_call : App → List Text → Bool
+is_call app [] = false
+is_call app (first ∷ rest) = bytes_eq first app.top.name && length (fault_of app (first ∷ rest)) == 0
+
+-- the command that the words call; none where they are faulty
+abbrev pub command_of : List Text → Option Command
+command_of words = if is_call wrap words then Some Wrap else None
