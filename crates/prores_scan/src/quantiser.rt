@@ -3,10 +3,9 @@
 ghost use Rattle.std.specs.Prelude.{◌≡◌, ◌≤◌, ◌<◌, ◌↔◌, IsSome, IfSome};
 ghost use Rattle.prores_scan.specs.Weights.{weight_at, AreWeights, AreSmall, scale_of};
 
-/// The weight matrix of a kind, in raster order: kind 0 where a frame loads none (RDD 36), kind 1
-/// our own.
+/// The weight matrix of a kind, in raster order: kind 0 where a frame loads none (RDD 36), every
+/// other kind our own.
 pub fn weights(kind: u8, chroma: bool) -> [u8; 64]
-    requires { kind ≤ 1 }
     ensures weights { AreWeights kind chroma result }
     ensures small { AreSmall result }
 {
