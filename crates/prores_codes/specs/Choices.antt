@@ -8,12 +8,15 @@ pub record Parameters : Type 0 where
   pub r : ℕ
   pub e : ℕ
 
+-- three numbers as a code
 abbrev pub combination : ℕ → ℕ → ℕ → Parameters
 combination a r e = record { a = a; r = r; e = e }
 
+-- the code of order k
 abbrev pub order : ℕ → Parameters
 order k = combination 0 k (k + 1)
 
+-- the numbers of a code
 abbrev pub parameters : Code → Parameters
 parameters code = combination code.a code.r code.e
 
@@ -37,10 +40,10 @@ run_parameters run =
 
 -- the code of a size less one, by the size less one before
 abbrev pub level_parameters : ℕ → Parameters
-level_parameters level =
-    if nat_lt level 1 then combination 2 0 2
-    else if nat_lt level 2 then combination 1 0 1
-    else if nat_lt level 3 then combination 2 0 1
-    else if nat_lt level 4 then order 0
-    else if nat_lt level 8 then order 1
+level_parameters size_less_one =
+    if nat_lt size_less_one 1 then combination 2 0 2
+    else if nat_lt size_less_one 2 then combination 1 0 1
+    else if nat_lt size_less_one 3 then combination 2 0 1
+    else if nat_lt size_less_one 4 then order 0
+    else if nat_lt size_less_one 8 then order 1
     else order 2

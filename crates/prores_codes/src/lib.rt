@@ -2,7 +2,7 @@
 //!
 //! The crates above rest on one contract: `write` and `read` meet one relation, `Spells`, by the two cases of the
 //! standard. `write` puts just the spelling of the number; `read` answers a number exactly where its spelling stands at
-//! the place, whatever follows. So no spelling is the beginning of another.
+//! the place, whatever follows. No spelling is the beginning of another (`spellings_are_apart`).
 //!
 //! A combination code (a, r, e) has short spellings of at most a zeros, a one and r low bits, and long ones of more
 //! zeros and then the binary digits of a number from 2^e on; order k is the code (0, k, k + 1). `fold` makes signed
@@ -15,11 +15,13 @@ mod choice;
 mod code;
 mod fault;
 mod form;
+mod law;
 mod signed;
 mod spelling;
 
 pub use choice::{dc_code, first_code, level_code, run_code};
 pub use code::Code;
 pub use fault::CodeFault;
+pub use law::spellings_are_apart;
 pub use signed::{fold, unfold};
 pub use spelling::{fits, read, small_fits, write};
