@@ -1,0 +1,5 @@
+pub mod EachLemmas
+pub mod Halves
+pub mod Rounding
+pub mod SumLemmas
+pub mod WordLemmas

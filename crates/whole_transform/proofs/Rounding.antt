@@ -1,0 +1,105 @@
+-- From sums to samples.
+use Rattle.std.proofs.Common.{◌≡◌, ℕ, ◌+◌, ◌*◌, ◌/◌, ◌%◌, ◌^◌, ◌<◌, ◌≤◌, refl, arith, ℤ, pos, negsuc, ◌+ℤ◌, subst, sym, lit≤, List, length, slice_index, ⊎_elim, ◌-ℤ◌, ◌*ℤ◌, ◌≤ℤ◌, ◌<ℤ◌, ap, ◌∙◌, w32, FitsSigned}
+use Rattle.std.proofs.lemmas.Int.{ints, clamps, fits_signed_from_abs}
+use Rattle.std.specs.Int.RustNames.{unsigned_abs}
+use Rattle.std.specs.Int.Signed.{shr_z}
+use Rattle.std.specs.Int.{int_max, int_min}
+use Rattle.std.proofs.lemmas.List.{get_or_past}
+use Rattle.std.proofs.lemmas.Bool.{cases_lt}
+use Rattle.whole_transform.specs.Transform.{clamped, floored, sample}
+
+pub clamped_is : (z raised lowered : ℤ) → raised ≡ int_max z (pos 4) → lowered ≡ int_min raised (pos 1019) → unsigned_abs lowered ≡ clamped z
+unfolding clamped
+clamped_is (pos n) raised lowered p q = omega (arith, ints, clamps)
+clamped_is (negsuc n) raised lowered p q = omega (arith, ints, clamps)
+
+pub clamped_range : (z : ℤ) → clamped z ≤ 1019
+unfolding clamped
+clamped_range (pos n) = omega arith
+clamped_range (negsuc n) = lit≤ tt
+
+pub sample_range : (z : ℤ) → sample z ≤ 1019
+unfolding sample
+sample_range z = clamped_range (pos 512 +ℤ floored (z +ℤ pos (2 ^ 29)) (2 ^ 30))
+
+-- a shift to the right rounds down
+pub floored_is : (z : ℤ) (d : ℕ) → shr_z z d ≡ floored z d
+unfolding floored
+floored_is (pos n) d = refl
+floored_is (negsuc n) d = refl
+
+pub floored_small : (z : ℤ) → unsigned_abs z ≤ 2 ^ 54 → unsigned_abs (floored z (2 ^ 30)) ≤ 2 ^ 25
+unfolding floored
+floored_small (pos n) small = omega arith
+floored_small (negsuc n) small = omega arith
+
+-- what holds of each cell holds at each place of the block
+pub all_in_range : (out : List ℕ) → length out ≡ 64 → ((y x : ℕ) → y < 8 → x < 8 → slice_index out (8 * y + x) ≤ 1019) → (k : ℕ) → slice_index out k ≤ 1019
+all_in_range out long cells k = ⊎_elim
+    (λ (lt : k < 64). let e : 8 * (k / 8) + k % 8 ≡ k = omega arith in subst (λ (i : ℕ). slice_index out i ≤ 1019) e (cells (k / 8) (k % 8) (omega arith) (omega arith)))
+    (λ (past : 64 ≤ k). subst (λ (v : ℕ). v ≤ 1019) (sym (get_or_past out k 0 (omega arith))) (lit≤ tt))
+    (cases_lt k 64)
+
+-- a quotient rounded down is the whole number of times that the divisor goes in
+pub floored_14 : (z : ℤ) → ((pos (2 ^ 14) *ℤ floored z (2 ^ 14)) ≤ℤ z) × (z <ℤ ((pos (2 ^ 14) *ℤ floored z (2 ^ 14)) +ℤ pos (2 ^ 14)))
+unfolding floored
+floored_14 (pos n) = (omega (arith, ints), omega (arith, ints))
+floored_14 (negsuc n) = (omega (arith, ints), omega (arith, ints))
+
+pub floored_16 : (z : ℤ) → ((pos (2 ^ 16) *ℤ floored z (2 ^ 16)) ≤ℤ z) × (z <ℤ ((pos (2 ^ 16) *ℤ floored z (2 ^ 16)) +ℤ pos (2 ^ 16)))
+unfolding floored
+floored_16 (pos n) = (omega (arith, ints), omega (arith, ints))
+floored_16 (negsuc n) = (omega (arith, ints), omega (arith, ints))
+
+pub floored_30 : (z : ℤ) → ((pos (2 ^ 30) *ℤ floored z (2 ^ 30)) ≤ℤ z) × (z <ℤ ((pos (2 ^ 30) *ℤ floored z (2 ^ 30)) +ℤ pos (2 ^ 30)))
+unfolding floored
+floored_30 (pos n) = (omega (arith, ints), omega (arith, ints))
+floored_30 (negsuc n) = (omega (arith, ints), omega (arith, ints))
+
+-- rounding down once or twice is the same, and what is added before is added after
+pub floored_twice : (a b : ℤ) →
+    floored (a +ℤ (floored (b +ℤ pos 0) (2 ^ 16) +ℤ pos 8396800)) (2 ^ 14) ≡ pos 512 +ℤ floored ((pos 65536 *ℤ a +ℤ b) +ℤ pos (2 ^ 29)) (2 ^ 30)
+floored_twice a b =
+    let inner = floored_16 (b +ℤ pos 0) in
+    let outer = floored_14 (a +ℤ (floored (b +ℤ pos 0) (2 ^ 16) +ℤ pos 8396800)) in
+    let whole = floored_30 ((pos 65536 *ℤ a +ℤ b) +ℤ pos (2 ^ 29)) in
+    omega (arith, ints)
+
+-- a number in two halves
+pub record Halves (value upper : ℤ) : Type 0 where
+  pub product_fits : FitsSigned w32 (pos 65536 *ℤ upper)
+  pub low_fits : FitsSigned w32 (value -ℤ pos 65536 *ℤ upper)
+  pub whole : value ≡ pos 65536 *ℤ upper +ℤ (value -ℤ pos 65536 *ℤ upper)
+  pub high : unsigned_abs upper ≤ 21643
+  pub low : unsigned_abs (value -ℤ pos 65536 *ℤ upper) ≤ 2 ^ 15
+
+pub halves_of : (value upper : ℤ) → unsigned_abs value ≤ 2 ^ 15 * 43284 → upper ≡ floored (value +ℤ pos 32768) (2 ^ 16) → Halves value upper
+halves_of value upper small e =
+    let bounds = floored_16 (value +ℤ pos 32768) in
+    record {
+      product_fits = fits_signed_from_abs w32 _ (omega (arith, ints));
+      low_fits = fits_signed_from_abs w32 _ (omega (arith, ints));
+      whole = omega (arith, ints);
+      high = omega (arith, ints);
+      low = omega (arith, ints);
+    }
+
+-- the sample of a sum in two halves
+pub joined_sample_is : (high low carried shifted : ℤ) (result : ℕ) → carried ≡ floored (low +ℤ pos 0) (2 ^ 16) →
+    shifted ≡ floored (high +ℤ (carried +ℤ pos 8396800)) (2 ^ 14) → result ≡ clamped shifted → result ≡ sample (pos 65536 *ℤ high +ℤ low)
+unfolding sample
+joined_sample_is high low carried shifted result below above e =
+    e ∙ ap clamped (above ∙ ap (λ (z : ℤ). floored (high +ℤ (z +ℤ pos 8396800)) (2 ^ 14)) below ∙ floored_twice high low)
+
+-- what a lower half carries
+pub carried_small : (low : ℤ) → unsigned_abs low ≤ 2 ^ 15 * 43284 → unsigned_abs (floored (low +ℤ pos 0) (2 ^ 16)) ≤ 2 ^ 15
+carried_small low small = let bounds = floored_16 (low +ℤ pos 0) in omega (arith, ints)
+
+-- the same of eight blocks side by side
+pub all_lanes_in_range : (out : List ℕ) → length out ≡ 512 → ((b y x : ℕ) → b < 8 → y < 8 → x < 8 → slice_index out (64 * y + (8 * x + b)) ≤ 1019) →
+    (k : ℕ) → slice_index out k ≤ 1019
+all_lanes_in_range out long cells k = ⊎_elim
+    (λ (lt : k < 512). let e : 64 * (k / 64) + (8 * (k % 64 / 8) + k % 64 % 8) ≡ k = omega arith in
+    subst (λ (i : ℕ). slice_index out i ≤ 1019) e (cells (k % 64 % 8) (k / 64) (k % 64 / 8) (omega arith) (omega arith) (omega arith)))
+    (λ (past : 512 ≤ k). subst (λ (v : ℕ). v ≤ 1019) (sym (get_or_past out k 0 (omega arith))) (lit≤ tt))
+    (cases_lt k 512)

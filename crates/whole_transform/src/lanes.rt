@@ -1,0 +1,206 @@
+//! Eight blocks at once, all in 32 bits. Their numbers stand side by side, eight of each place, so that each statement
+//! is one over eight blocks.
+
+ghost use Rattle.std.specs.Prelude.{◌≡◌, ◌≢◌, ◌≤◌, ◌<◌, ◌+◌, ◌*◌, ◌^◌, ℕ, pos, ◌+ℤ◌, ◌*ℤ◌, slice_index};
+ghost use Rattle.std.specs.Int.RustNames.{unsigned_abs};
+ghost use Rattle.whole_transform.specs.Sums.{at, sum_to};
+ghost use Rattle.whole_transform.specs.Transform.{IsInverseOfEach, basis, floored, lane_cell, sample};
+
+use crate::narrow;
+use crate::samples::clamped_sample;
+
+/// One half, which rounds, and 512, both over 2^14.
+const HALF_AND_MIDDLE: i32 = (1 << 13) + (512 << 14);
+
+/// Transforms eight blocks of products of 16 bits into their samples: the number of block `b` at a row and a column
+/// stands at `64 * row + 8 * column + b`, in `products` as in `out`.
+pub fn inverse_lanes(products: &[i16; 512], out: &mut [u16; 512])
+    ensures samples { IsInverseOfEach products.now out.new }
+    ensures range { (k : ℕ) → slice_index out.new k ≤ 1019 }
+{
+    let mut columns = [0i32; 512];
+    lane_columns(products, &mut columns);
+    for y in 0..8 {
+        put_lane_row(&columns, y, out);
+    }
+}
+
+/// Transforms each column of each block.
+#[inline(always)]
+fn lane_columns(products: &[i16; 512], columns: &mut [i32; 512])
+    ensures sums { (y j : ℕ) → y < 8 → j < 64 → at columns.new (64 * y + j) ≡ sum_to 8 (λ v. basis v y *ℤ at products.now (64 * v + j)) }
+    ensures small { (y j : ℕ) → y < 8 → j < 64 → unsigned_abs (at columns.new (64 * y + j)) ≤ 2 ^ 15 * 43284 }
+{
+    for j in 0..64 {
+        put_lane_column(
+            columns,
+            j,
+            narrow::inverse_eight(lane_column_of(products, j)),
+        );
+    }
+}
+
+/// The products of a column.
+#[inline(always)]
+fn lane_column_of(products: &[i16; 512], column: usize) -> [i32; 8]
+    requires { column < 64 }
+    ensures values { (v : ℕ) → v < 8 → at result v ≡ at products.now (64 * v + column) }
+    ensures small { (v : ℕ) → v < 8 → unsigned_abs (at result v) ≤ 2 ^ 15 }
+{
+    [
+        i32::from(products[column]),
+        i32::from(products[64 + column]),
+        i32::from(products[128 + column]),
+        i32::from(products[192 + column]),
+        i32::from(products[256 + column]),
+        i32::from(products[320 + column]),
+        i32::from(products[384 + column]),
+        i32::from(products[448 + column]),
+    ]
+}
+
+/// Writes a column.
+#[inline(always)]
+fn put_lane_column(columns: &mut [i32; 512], column: usize, values: [i32; 8])
+    requires { column < 64 }
+    ensures placed { (y : ℕ) → y < 8 → at columns.new (64 * y + column) ≡ at values y }
+    ensures kept { (y j : ℕ) → j < 64 → j ≢ column → at columns.new (64 * y + j) ≡ at columns.old (64 * y + j) }
+{
+    for y in 0..8 {
+        columns[64 * y + column] = values[y];
+    }
+}
+
+/// Transforms a row of each block and writes its samples.
+#[inline(always)]
+fn put_lane_row(columns: &[i32; 512], row: usize, out: &mut [u16; 512])
+    requires place { row < 8 }
+    requires small { (y j : ℕ) → y < 8 → j < 64 → unsigned_abs (at columns.now (64 * y + j)) ≤ 2 ^ 15 * 43284 }
+    ensures samples { (b x : ℕ) → b < 8 → x < 8 → slice_index out.new (64 * row + (8 * x + b)) ≡ sample (sum_to 8 (λ u. basis u x *ℤ lane_cell columns.now b row u)) }
+    ensures kept { (y j : ℕ) → j < 64 → y ≢ row → slice_index out.new (64 * y + j) ≡ slice_index out.old (64 * y + j) }
+{
+    for lane in 0..8 {
+        put_lane_samples(
+            out,
+            row,
+            lane,
+            samples_of_sums(lane_row_of(columns, row, lane)),
+        );
+    }
+}
+
+/// The values of a row of one block.
+#[inline(always)]
+fn lane_row_of(columns: &[i32; 512], row: usize, lane: usize) -> [i32; 8]
+    requires place { (row < 8) × (lane < 8) }
+    ensures { (u : ℕ) → u < 8 → at result u ≡ lane_cell columns.now lane row u }
+{
+    let start = 64 * row + lane;
+    [
+        columns[start],
+        columns[start + 8],
+        columns[start + 16],
+        columns[start + 24],
+        columns[start + 32],
+        columns[start + 40],
+        columns[start + 48],
+        columns[start + 56],
+    ]
+}
+
+/// Writes a row of one block.
+#[inline(always)]
+fn put_lane_samples(out: &mut [u16; 512], row: usize, lane: usize, values: [u16; 8])
+    requires place { (row < 8) × (lane < 8) }
+    ensures placed { (x : ℕ) → x < 8 → slice_index out.new (64 * row + (8 * x + lane)) ≡ slice_index values x }
+    ensures lanes { (b x : ℕ) → b < 8 → x < 8 → b ≢ lane → slice_index out.new (64 * row + (8 * x + b)) ≡ slice_index out.old (64 * row + (8 * x + b)) }
+    ensures rows { (y j : ℕ) → j < 64 → y ≢ row → slice_index out.new (64 * y + j) ≡ slice_index out.old (64 * y + j) }
+{
+    for x in 0..8 {
+        out[64 * row + (8 * x + lane)] = values[x];
+    }
+}
+
+/// The samples of a row, by the sums of the upper and of the lower halves of its values.
+#[inline(always)]
+fn samples_of_sums(values: [i32; 8]) -> [u16; 8]
+    requires { (u : ℕ) → u < 8 → unsigned_abs (at values u) ≤ 2 ^ 15 * 43284 }
+    ensures { (x : ℕ) → x < 8 → slice_index result x ≡ sample (sum_to 8 (λ u. basis u x *ℤ at values u)) }
+{
+    let (high, low) = split(values);
+    joined_samples(narrow::inverse_eight(high), narrow::inverse_eight(low))
+}
+
+/// The samples of sums that are given by their halves' sums.
+#[inline(always)]
+fn joined_samples(high: [i32; 8], low: [i32; 8]) -> [u16; 8]
+    requires high { (x : ℕ) → x < 8 → unsigned_abs (at high x) ≤ 21643 * 43284 }
+    requires low { (x : ℕ) → x < 8 → unsigned_abs (at low x) ≤ 2 ^ 15 * 43284 }
+    ensures { (x : ℕ) → x < 8 → slice_index result x ≡ sample (pos 65536 *ℤ at high x +ℤ at low x) }
+{
+    let [a, b, c, d, e, f, g, h] = high;
+    let [i, j, k, l, m, n, o, p] = low;
+    [
+        joined_sample(a, i),
+        joined_sample(b, j),
+        joined_sample(c, k),
+        joined_sample(d, l),
+        joined_sample(e, m),
+        joined_sample(f, n),
+        joined_sample(g, o),
+        joined_sample(h, p),
+    ]
+}
+
+/// Each value in two: its nearest multiple of 65536, over it, and what is left.
+#[inline(always)]
+fn split(values: [i32; 8]) -> ([i32; 8], [i32; 8])
+    requires { (u : ℕ) → u < 8 → unsigned_abs (at values u) ≤ 2 ^ 15 * 43284 }
+    ensures whole { (u : ℕ) → u < 8 → at values u ≡ pos 65536 *ℤ at result.0 u +ℤ at result.1 u }
+    ensures high { (u : ℕ) → u < 8 → unsigned_abs (at result.0 u) ≤ 21643 }
+    ensures low { (u : ℕ) → u < 8 → unsigned_abs (at result.1 u) ≤ 2 ^ 15 }
+{
+    let [a, b, c, d, e, f, g, h] = values;
+    let (a, i) = halves(a);
+    let (b, j) = halves(b);
+    let (c, k) = halves(c);
+    let (d, l) = halves(d);
+    let (e, m) = halves(e);
+    let (f, n) = halves(f);
+    let (g, o) = halves(g);
+    let (h, p) = halves(h);
+    ([a, b, c, d, e, f, g, h], [i, j, k, l, m, n, o, p])
+}
+
+/// One value in two.
+#[inline(always)]
+fn halves(value: i32) -> (i32, i32)
+    requires { unsigned_abs value ≤ 2 ^ 15 * 43284 }
+    ensures whole { value ≡ pos 65536 *ℤ result.0 +ℤ result.1 }
+    ensures high { unsigned_abs result.0 ≤ 21643 }
+    ensures low { unsigned_abs result.1 ≤ 2 ^ 15 }
+{
+    let high = shifted_sum(value, 32768, 16);
+    (high, value - 65536 * high)
+}
+
+/// The sample of a sum that is given by its halves' sums.
+#[inline(always)]
+fn joined_sample(high: i32, low: i32) -> u16
+    requires high { unsigned_abs high ≤ 21643 * 43284 }
+    requires low { unsigned_abs low ≤ 2 ^ 15 * 43284 }
+    ensures { result ≡ sample (pos 65536 *ℤ high +ℤ low) }
+{
+    let carried = shifted_sum(low, 0, 16);
+    clamped_sample(shifted_sum(high, carried + HALF_AND_MIDDLE, 14))
+}
+
+/// A sum over a power of two, rounded down.
+#[inline(always)]
+fn shifted_sum(a: i32, b: i32, bits: u32) -> i32
+    requires sum { unsigned_abs a + unsigned_abs b < 2 ^ 31 }
+    requires bits { bits < 31 }
+    ensures { result ≡ floored (a +ℤ b) (2 ^ bits) }
+{
+    (a + b) >> bits
+}

@@ -1,0 +1,156 @@
+//! Eight values and the eight basis numbers in 32 bits, by even and odd halves: 22 products for eight sums.
+
+ghost use Rattle.std.specs.Prelude.{◌≡◌, ◌≤◌, ◌<◌, ◌+◌, ◌-◌, ◌*◌, ◌^◌, ℕ, ℤ, pos, ◌+ℤ◌, ◌-ℤ◌, ◌*ℤ◌};
+ghost use Rattle.std.specs.Int.RustNames.{unsigned_abs};
+ghost use Rattle.whole_transform.specs.Sums.{at, sum_to};
+ghost use Rattle.whole_transform.specs.Transform.{basis};
+
+/// The sums of eight values with each basis number.
+#[inline(always)]
+pub fn forward_eight(x: [i32; 8]) -> [i32; 8]
+    requires { (k : ℕ) → k < 8 → unsigned_abs (at x k) ≤ 2 ^ 13 }
+    ensures { (k : ℕ) → k < 8 → at result k ≡ sum_to 8 (λ j. basis k j *ℤ at x j) }
+{
+    let (sums, differences) = mirrored(x);
+    let [zeroth, second, fourth, sixth] = even_half(sums);
+    let [first, third, fifth, seventh] = odd_half(differences);
+    [zeroth, first, second, third, fourth, fifth, sixth, seventh]
+}
+
+/// The sums of the eight basis numbers at each place with eight values.
+#[inline(always)]
+pub fn inverse_eight(x: [i32; 8]) -> [i32; 8]
+    requires { (k : ℕ) → k < 8 → unsigned_abs (at x k) ≤ 2 ^ 15 }
+    ensures { (j : ℕ) → j < 8 → at result j ≡ sum_to 8 (λ k. basis k j *ℤ at x k) }
+{
+    let [zeroth, first, second, third, fourth, fifth, sixth, seventh] = x;
+    let even = inverse_even([zeroth, second, fourth, sixth]);
+    let odd = odd_half([first, third, fifth, seventh]);
+    unmirrored(even, odd)
+}
+
+/// The sums of the first and the last value, then of the second and the last but one, and the differences likewise.
+#[inline(always)]
+fn mirrored(x: [i32; 8]) -> ([i32; 4], [i32; 4])
+    requires { (k : ℕ) → k < 8 → unsigned_abs (at x k) ≤ 2 ^ 13 }
+    ensures sums { (k : ℕ) → k < 4 → at result.0 k ≡ at x k +ℤ at x (7 - k) }
+    ensures differences { (k : ℕ) → k < 4 → at result.1 k ≡ at x k -ℤ at x (7 - k) }
+{
+    let [a, b, c, d, e, f, g, h] = x;
+    ([a + h, b + g, c + f, d + e], [a - h, b - g, c - f, d - e])
+}
+
+/// Four sums, then four differences from the last to the first.
+#[inline(always)]
+fn unmirrored(even: [i32; 4], odd: [i32; 4]) -> [i32; 8]
+    requires even { (k : ℕ) → k < 4 → unsigned_abs (at even k) ≤ 4 * (8035 * 2 ^ 15) }
+    requires odd { (k : ℕ) → k < 4 → unsigned_abs (at odd k) ≤ 4 * (8035 * 2 ^ 15) }
+    ensures first { (k : ℕ) → k < 4 → at result k ≡ at even k +ℤ at odd k }
+    ensures last { (k : ℕ) → k < 4 → at result (7 - k) ≡ at even k -ℤ at odd k }
+{
+    let [a, b, c, d] = even;
+    let [e, f, g, h] = odd;
+    [a + e, b + f, c + g, d + h, d - h, c - g, b - f, a - e]
+}
+
+/// The even basis numbers at the first four places with four values.
+#[inline(always)]
+fn even_half(x: [i32; 4]) -> [i32; 4]
+    requires { (k : ℕ) → k < 4 → unsigned_abs (at x k) ≤ 2 ^ 14 }
+    ensures sums { (k : ℕ) → k < 4 → at result k ≡ sum_to 4 (λ j. basis (2 * k) j *ℤ at x j) }
+    ensures small { (k : ℕ) → k < 4 → unsigned_abs (at result k) ≤ 2 * (8035 * 2 ^ 15) }
+{
+    even_products(folded(x))
+}
+
+/// The same by columns: the basis numbers at each of the four places with the four values of the even ones.
+#[inline(always)]
+fn inverse_even(x: [i32; 4]) -> [i32; 4]
+    requires { (k : ℕ) → k < 4 → unsigned_abs (at x k) ≤ 2 ^ 15 }
+    ensures sums { (j : ℕ) → j < 4 → at result j ≡ sum_to 4 (λ k. basis (2 * k) j *ℤ at x k) }
+    ensures small { (j : ℕ) → j < 4 → unsigned_abs (at result j) ≤ 4 * (8035 * 2 ^ 15) }
+{
+    let [zeroth, second, fourth, sixth] = x;
+    crossed(even_products([zeroth, fourth, second, sixth]))
+}
+
+/// Two sums of mirrored values, then their differences.
+#[inline(always)]
+fn folded(x: [i32; 4]) -> [i32; 4]
+    requires { (k : ℕ) → k < 4 → unsigned_abs (at x k) ≤ 2 ^ 14 }
+    ensures sums { (k : ℕ) → k < 2 → at result k ≡ at x k +ℤ at x (3 - k) }
+    ensures differences { (k : ℕ) → k < 2 → at result (2 + k) ≡ at x k -ℤ at x (3 - k) }
+    ensures small { (k : ℕ) → k < 4 → unsigned_abs (at result k) ≤ 2 ^ 15 }
+{
+    let [a, b, c, d] = x;
+    [a + d, b + c, a - d, b - c]
+}
+
+/// The products of the even basis numbers at the first two places.
+#[inline(always)]
+fn even_products(x: [i32; 4]) -> [i32; 4]
+    requires { (k : ℕ) → k < 4 → unsigned_abs (at x k) ≤ 2 ^ 15 }
+    ensures fourth { (k : ℕ) → k < 2 → at result (2 * k) ≡ basis (4 * k) 0 *ℤ at x 0 +ℤ basis (4 * k) 1 *ℤ at x 1 }
+    ensures second { (k : ℕ) → k < 2 → at result (2 * k + 1) ≡ basis (4 * k + 2) 0 *ℤ at x 2 +ℤ basis (4 * k + 2) 1 *ℤ at x 3 }
+    ensures small { (k : ℕ) → k < 4 → unsigned_abs (at result k) ≤ 2 * (8035 * 2 ^ 15) }
+{
+    let [a, b, c, d] = x;
+    [
+        two_products(5793, a, 5793, b),
+        two_products(7568, c, 3135, d),
+        two_products(5793, a, -5793, b),
+        two_products(3135, c, -7568, d),
+    ]
+}
+
+/// The sums and differences of the products of the even half.
+#[inline(always)]
+fn crossed(x: [i32; 4]) -> [i32; 4]
+    requires { (k : ℕ) → k < 4 → unsigned_abs (at x k) ≤ 2 * (8035 * 2 ^ 15) }
+    ensures outer { (at result 0 ≡ at x 0 +ℤ at x 1) × (at result 3 ≡ at x 0 -ℤ at x 1) }
+    ensures inner { (at result 1 ≡ at x 2 +ℤ at x 3) × (at result 2 ≡ at x 2 -ℤ at x 3) }
+    ensures small { (k : ℕ) → k < 4 → unsigned_abs (at result k) ≤ 4 * (8035 * 2 ^ 15) }
+{
+    let [a, b, c, d] = x;
+    [a + b, c + d, c - d, a - b]
+}
+
+/// The odd basis numbers at the first four places with four values. They are the same by rows and by columns.
+#[inline(always)]
+fn odd_half(x: [i32; 4]) -> [i32; 4]
+    requires { (k : ℕ) → k < 4 → unsigned_abs (at x k) ≤ 2 ^ 15 }
+    ensures sums { (k : ℕ) → k < 4 → at result k ≡ sum_to 4 (λ j. basis (2 * k + 1) j *ℤ at x j) }
+    ensures small { (k : ℕ) → k < 4 → unsigned_abs (at result k) ≤ 4 * (8035 * 2 ^ 15) }
+{
+    let [a, b, c, d] = x;
+    [
+        four_products(8035, a, 6811, b, 4551, c, 1598, d),
+        four_products(6811, a, -1598, b, -8035, c, -4551, d),
+        four_products(4551, a, -8035, b, 1598, c, 6811, d),
+        four_products(1598, a, -4551, b, 6811, c, -8035, d),
+    ]
+}
+
+/// The sum of four products.
+#[inline(always)]
+fn four_products(p: i32, a: i32, q: i32, b: i32, r: i32, c: i32, s: i32, d: i32) -> i32
+    requires first { (unsigned_abs p ≤ 8035) × (unsigned_abs a ≤ 2 ^ 15) }
+    requires second { (unsigned_abs q ≤ 8035) × (unsigned_abs b ≤ 2 ^ 15) }
+    requires third { (unsigned_abs r ≤ 8035) × (unsigned_abs c ≤ 2 ^ 15) }
+    requires fourth { (unsigned_abs s ≤ 8035) × (unsigned_abs d ≤ 2 ^ 15) }
+    ensures value { result ≡ ((p *ℤ a) +ℤ (q *ℤ b)) +ℤ ((r *ℤ c) +ℤ (s *ℤ d)) }
+    ensures small { unsigned_abs result ≤ 4 * (8035 * 2 ^ 15) }
+{
+    two_products(p, a, q, b) + two_products(r, c, s, d)
+}
+
+/// The sum of two products.
+#[inline(always)]
+fn two_products(p: i32, a: i32, q: i32, b: i32) -> i32
+    requires first { (unsigned_abs p ≤ 8035) × (unsigned_abs a ≤ 2 ^ 15) }
+    requires second { (unsigned_abs q ≤ 8035) × (unsigned_abs b ≤ 2 ^ 15) }
+    ensures value { result ≡ (p *ℤ a) +ℤ (q *ℤ b) }
+    ensures small { unsigned_abs result ≤ 2 * (8035 * 2 ^ 15) }
+{
+    p * a + q * b
+}
