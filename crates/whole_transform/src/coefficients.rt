@@ -1,9 +1,10 @@
 //! From samples to coefficients: the columns in 32 bits, then the rows in 64.
 
-ghost use Rattle.std.specs.Prelude.{◌≡◌, ◌≤◌, ◌<◌, ◌+◌, ◌*◌, ◌^◌, ℕ, pos, ◌-ℤ◌, ◌*ℤ◌, slice_index};
+ghost use Rattle.std.specs.Prelude.{◌≡◌, ◌≤◌, ◌<◌, ◌+◌, ◌*◌, ◌^◌, ℕ, pos, ◌-ℤ◌, slice_index};
 ghost use Rattle.std.specs.Int.RustNames.{unsigned_abs};
-ghost use Rattle.whole_transform.specs.Sums.{at, sum_to};
-ghost use Rattle.whole_transform.specs.Transform.{IsForward, basis, cell, centred};
+ghost use Rattle.whole_transform.specs.Passes.{forward_of};
+ghost use Rattle.whole_transform.specs.Sums.{at};
+ghost use Rattle.whole_transform.specs.Transform.{IsForward, cell, centred};
 
 use crate::places::{put_column, put_row, widened_row};
 use crate::{narrow, wide};
@@ -25,7 +26,7 @@ pub fn forward(block: &[u16; 64], out: &mut [i64; 64])
 #[inline(always)]
 fn forward_columns(block: &[u16; 64], columns: &mut [i32; 64])
     requires { (k : ℕ) → slice_index block.now k < 1024 }
-    ensures sums { (v x : ℕ) → v < 8 → x < 8 → cell columns.new v x ≡ sum_to 8 (λ y. basis v y *ℤ centred block.now y x) }
+    ensures sums { (v x : ℕ) → v < 8 → x < 8 → cell columns.new v x ≡ forward_of (λ y. centred block.now y x) v }
     ensures small { (v x : ℕ) → v < 8 → x < 8 → unsigned_abs (cell columns.new v x) ≤ 512 * 46344 }
 {
     for x in 0..8 {

@@ -3,8 +3,9 @@
 
 ghost use Rattle.std.specs.Prelude.{◌≡◌, ◌≢◌, ◌≤◌, ◌<◌, ◌+◌, ◌*◌, ◌^◌, ℕ, pos, ◌+ℤ◌, ◌*ℤ◌, slice_index};
 ghost use Rattle.std.specs.Int.RustNames.{unsigned_abs};
-ghost use Rattle.whole_transform.specs.Sums.{at, sum_to};
-ghost use Rattle.whole_transform.specs.Transform.{IsInverseOfEach, basis, floored, lane_cell, sample};
+ghost use Rattle.whole_transform.specs.Passes.{inverse_of, lane_at, lane_sample};
+ghost use Rattle.whole_transform.specs.Sums.{at};
+ghost use Rattle.whole_transform.specs.Transform.{IsInverseOfEach, floored, lane_cell, sample};
 
 use crate::narrow;
 use crate::samples::clamped_sample;
@@ -28,8 +29,8 @@ pub fn inverse_lanes(products: &[i16; 512], out: &mut [u16; 512])
 /// Transforms each column of each block.
 #[inline(always)]
 fn lane_columns(products: &[i16; 512], columns: &mut [i32; 512])
-    ensures sums { (y j : ℕ) → y < 8 → j < 64 → at columns.new (64 * y + j) ≡ sum_to 8 (λ v. basis v y *ℤ at products.now (64 * v + j)) }
-    ensures small { (y j : ℕ) → y < 8 → j < 64 → unsigned_abs (at columns.new (64 * y + j)) ≤ 2 ^ 15 * 43284 }
+    ensures sums { (y j : ℕ) → y < 8 → j < 64 → lane_at columns.new y j ≡ inverse_of (λ v. lane_at products.now v j) y }
+    ensures small { (y j : ℕ) → y < 8 → j < 64 → unsigned_abs (lane_at columns.new y j) ≤ 2 ^ 15 * 43284 }
 {
     for j in 0..64 {
         put_lane_column(
@@ -44,7 +45,7 @@ fn lane_columns(products: &[i16; 512], columns: &mut [i32; 512])
 #[inline(always)]
 fn lane_column_of(products: &[i16; 512], column: usize) -> [i32; 8]
     requires { column < 64 }
-    ensures values { (v : ℕ) → v < 8 → at result v ≡ at products.now (64 * v + column) }
+    ensures values { (v : ℕ) → v < 8 → at result v ≡ lane_at products.now v column }
     ensures small { (v : ℕ) → v < 8 → unsigned_abs (at result v) ≤ 2 ^ 15 }
 {
     [
@@ -63,8 +64,8 @@ fn lane_column_of(products: &[i16; 512], column: usize) -> [i32; 8]
 #[inline(always)]
 fn put_lane_column(columns: &mut [i32; 512], column: usize, values: [i32; 8])
     requires { column < 64 }
-    ensures placed { (y : ℕ) → y < 8 → at columns.new (64 * y + column) ≡ at values y }
-    ensures kept { (y j : ℕ) → j < 64 → j ≢ column → at columns.new (64 * y + j) ≡ at columns.old (64 * y + j) }
+    ensures placed { (y : ℕ) → y < 8 → lane_at columns.new y column ≡ at values y }
+    ensures kept { (y j : ℕ) → j < 64 → j ≢ column → lane_at columns.new y j ≡ lane_at columns.old y j }
 {
     for y in 0..8 {
         columns[64 * y + column] = values[y];
@@ -75,9 +76,10 @@ fn put_lane_column(columns: &mut [i32; 512], column: usize, values: [i32; 8])
 #[inline(always)]
 fn put_lane_row(columns: &[i32; 512], row: usize, out: &mut [u16; 512])
     requires place { row < 8 }
-    requires small { (y j : ℕ) → y < 8 → j < 64 → unsigned_abs (at columns.now (64 * y + j)) ≤ 2 ^ 15 * 43284 }
-    ensures samples { (b x : ℕ) → b < 8 → x < 8 → slice_index out.new (64 * row + (8 * x + b)) ≡ sample (sum_to 8 (λ u. basis u x *ℤ lane_cell columns.now b row u)) }
-    ensures kept { (y j : ℕ) → j < 64 → y ≢ row → slice_index out.new (64 * y + j) ≡ slice_index out.old (64 * y + j) }
+    requires small { (y j : ℕ) → y < 8 → j < 64 → unsigned_abs (lane_at columns.now y j) ≤ 2 ^ 15 * 43284 }
+    ensures samples { (b x : ℕ) → b < 8 → x < 8 →
+        lane_sample out.new row (8 * x + b) ≡ sample (inverse_of (lane_cell columns.now b row) x) }
+    ensures kept { (y j : ℕ) → j < 64 → y ≢ row → lane_sample out.new y j ≡ lane_sample out.old y j }
 {
     for lane in 0..8 {
         put_lane_samples(
@@ -112,9 +114,10 @@ fn lane_row_of(columns: &[i32; 512], row: usize, lane: usize) -> [i32; 8]
 #[inline(always)]
 fn put_lane_samples(out: &mut [u16; 512], row: usize, lane: usize, values: [u16; 8])
     requires place { (row < 8) × (lane < 8) }
-    ensures placed { (x : ℕ) → x < 8 → slice_index out.new (64 * row + (8 * x + lane)) ≡ slice_index values x }
-    ensures lanes { (b x : ℕ) → b < 8 → x < 8 → b ≢ lane → slice_index out.new (64 * row + (8 * x + b)) ≡ slice_index out.old (64 * row + (8 * x + b)) }
-    ensures rows { (y j : ℕ) → j < 64 → y ≢ row → slice_index out.new (64 * y + j) ≡ slice_index out.old (64 * y + j) }
+    ensures placed { (x : ℕ) → x < 8 → lane_sample out.new row (8 * x + lane) ≡ slice_index values x }
+    ensures lanes { (b x : ℕ) → b < 8 → x < 8 → b ≢ lane →
+        lane_sample out.new row (8 * x + b) ≡ lane_sample out.old row (8 * x + b) }
+    ensures rows { (y j : ℕ) → j < 64 → y ≢ row → lane_sample out.new y j ≡ lane_sample out.old y j }
 {
     for x in 0..8 {
         out[64 * row + (8 * x + lane)] = values[x];
@@ -125,7 +128,7 @@ fn put_lane_samples(out: &mut [u16; 512], row: usize, lane: usize, values: [u16;
 #[inline(always)]
 fn samples_of_sums(values: [i32; 8]) -> [u16; 8]
     requires { (u : ℕ) → u < 8 → unsigned_abs (at values u) ≤ 2 ^ 15 * 43284 }
-    ensures { (x : ℕ) → x < 8 → slice_index result x ≡ sample (sum_to 8 (λ u. basis u x *ℤ at values u)) }
+    ensures { (x : ℕ) → x < 8 → slice_index result x ≡ sample (inverse_of (at values) x) }
 {
     let (high, low) = split(values);
     joined_samples(narrow::inverse_eight(high), narrow::inverse_eight(low))

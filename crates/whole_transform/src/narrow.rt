@@ -2,6 +2,7 @@
 
 ghost use Rattle.std.specs.Prelude.{◌≡◌, ◌≤◌, ◌<◌, ◌+◌, ◌-◌, ◌*◌, ◌^◌, ℕ, ℤ, pos, ◌+ℤ◌, ◌-ℤ◌, ◌*ℤ◌};
 ghost use Rattle.std.specs.Int.RustNames.{unsigned_abs};
+ghost use Rattle.whole_transform.specs.Passes.{forward_of, inverse_of};
 ghost use Rattle.whole_transform.specs.Sums.{at, sum_to};
 ghost use Rattle.whole_transform.specs.Transform.{basis};
 
@@ -9,7 +10,7 @@ ghost use Rattle.whole_transform.specs.Transform.{basis};
 #[inline(always)]
 pub fn forward_eight(x: [i32; 8]) -> [i32; 8]
     requires { (k : ℕ) → k < 8 → unsigned_abs (at x k) ≤ 2 ^ 13 }
-    ensures { (k : ℕ) → k < 8 → at result k ≡ sum_to 8 (λ j. basis k j *ℤ at x j) }
+    ensures { (k : ℕ) → k < 8 → at result k ≡ forward_of (at x) k }
 {
     let (sums, differences) = mirrored(x);
     let [zeroth, second, fourth, sixth] = even_half(sums);
@@ -21,7 +22,7 @@ pub fn forward_eight(x: [i32; 8]) -> [i32; 8]
 #[inline(always)]
 pub fn inverse_eight(x: [i32; 8]) -> [i32; 8]
     requires { (k : ℕ) → k < 8 → unsigned_abs (at x k) ≤ 2 ^ 15 }
-    ensures { (j : ℕ) → j < 8 → at result j ≡ sum_to 8 (λ k. basis k j *ℤ at x k) }
+    ensures { (j : ℕ) → j < 8 → at result j ≡ inverse_of (at x) j }
 {
     let [zeroth, first, second, third, fourth, fifth, sixth, seventh] = x;
     let even = inverse_even([zeroth, second, fourth, sixth]);
@@ -91,7 +92,8 @@ fn folded(x: [i32; 4]) -> [i32; 4]
 fn even_products(x: [i32; 4]) -> [i32; 4]
     requires { (k : ℕ) → k < 4 → unsigned_abs (at x k) ≤ 2 ^ 15 }
     ensures fourth { (k : ℕ) → k < 2 → at result (2 * k) ≡ basis (4 * k) 0 *ℤ at x 0 +ℤ basis (4 * k) 1 *ℤ at x 1 }
-    ensures second { (k : ℕ) → k < 2 → at result (2 * k + 1) ≡ basis (4 * k + 2) 0 *ℤ at x 2 +ℤ basis (4 * k + 2) 1 *ℤ at x 3 }
+    ensures second { (k : ℕ) → k < 2 →
+        at result (2 * k + 1) ≡ basis (4 * k + 2) 0 *ℤ at x 2 +ℤ basis (4 * k + 2) 1 *ℤ at x 3 }
     ensures small { (k : ℕ) → k < 4 → unsigned_abs (at result k) ≤ 2 * (8035 * 2 ^ 15) }
 {
     let [a, b, c, d] = x;

@@ -1,9 +1,10 @@
 //! From products to samples.
 
-ghost use Rattle.std.specs.Prelude.{◌≡◌, ◌≤◌, ◌<◌, ◌+◌, ◌*◌, ◌^◌, ℕ, pos, ◌≢◌, ◌+ℤ◌, ◌*ℤ◌, slice_index};
+ghost use Rattle.std.specs.Prelude.{◌≡◌, ◌≤◌, ◌<◌, ◌+◌, ◌*◌, ◌^◌, ℕ, pos, ◌≢◌, ◌+ℤ◌, slice_index};
 ghost use Rattle.std.specs.Int.RustNames.{unsigned_abs};
-ghost use Rattle.whole_transform.specs.Sums.{at, sum_to};
-ghost use Rattle.whole_transform.specs.Transform.{IsInverse, basis, cell, clamped, floored, sample};
+ghost use Rattle.whole_transform.specs.Passes.{inverse_of};
+ghost use Rattle.whole_transform.specs.Sums.{at};
+ghost use Rattle.whole_transform.specs.Transform.{IsInverse, cell, clamped, floored, sample};
 
 use crate::places::{put_wide_column, row_of, widened_column};
 use crate::wide;
@@ -25,7 +26,7 @@ pub fn inverse(products: &[i32; 64], out: &mut [u16; 64])
 #[inline(always)]
 fn inverse_columns(products: &[i32; 64], columns: &mut [i64; 64])
     requires { (k : ℕ) → unsigned_abs (at products.now k) ≤ 2 ^ 22 }
-    ensures sums { (y u : ℕ) → y < 8 → u < 8 → cell columns.new y u ≡ sum_to 8 (λ v. basis v y *ℤ cell products.now v u) }
+    ensures sums { (y u : ℕ) → y < 8 → u < 8 → cell columns.new y u ≡ inverse_of (λ v. cell products.now v u) y }
     ensures small { (y u : ℕ) → y < 8 → u < 8 → unsigned_abs (cell columns.new y u) ≤ 2 ^ 22 * 43284 }
 {
     for u in 0..8 {
