@@ -17,3 +17,4 @@ mod words;
 mod wrap;
 
 pub use commands::plain;
+pub use status::{FAULTY_WORDS, MEMORY, refusal};

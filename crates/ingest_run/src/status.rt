@@ -6,24 +6,24 @@ ghost use Rattle.ingest_run.specs.Statuses.{answer, feed_answer};
 use raw_feed::FeedFault;
 use rec_bytes::Status;
 
-/// Memory was wanted.
-pub(crate) const MEMORY: Status = Status {
+/// The answer where memory was wanted (docs/FORMATS.md, "Statuses").
+pub const MEMORY: Status = Status {
     code: 1,
     number: 1,
     at: 0,
     other: 0,
 };
 
-/// The words are no command.
-pub(crate) const FAULTY_WORDS: Status = Status {
+/// The answer where the words are no command.
+pub const FAULTY_WORDS: Status = Status {
     code: 2,
     number: 0,
     at: 0,
     other: 0,
 };
 
-/// An answer with one number.
-pub(crate) fn refusal(code: u8, number: u16, at: u64) -> Status
+/// The answer with a refusal's number and its place (docs/FORMATS.md, "Refusals").
+pub fn refusal(code: u8, number: u16, at: u64) -> Status
     ensures { result ≡ answer code number at }
 {
     Status {

@@ -7,7 +7,7 @@
 
 mod help;
 
-use ingest_run::plain;
+use ingest_run::{FAULTY_WORDS, MEMORY, plain, refusal};
 use raw_feed::{Sink, StreamSink, StreamSource, put_all};
 use rec_bytes::Status;
 use std::env;
@@ -26,27 +26,12 @@ fn main(rt: HostRuntime) -> ExitCode {
             if kept { answer(&rt, &words) } else { MEMORY }
         }
         Err(fault) if fault.kind() == ErrorKind::OutOfMemory => MEMORY,
+        // A word isn't UTF-8.
         Err(_) => FAULTY_WORDS,
     };
     report(&rt, status);
     ExitCode::from(status.code)
 }
-
-/// Memory for the words was wanted.
-const MEMORY: Status = Status {
-    code: 1,
-    number: 1,
-    at: 0,
-    other: 0,
-};
-
-/// A word isn't UTF-8.
-const FAULTY_WORDS: Status = Status {
-    code: 2,
-    number: 0,
-    at: 0,
-    other: 0,
-};
 
 /// The answer to the words: a text of help, or what their command answers.
 fn answer(rt: &HostRuntime, words: &[String]) -> Status {
@@ -54,12 +39,7 @@ fn answer(rt: &HostRuntime, words: &[String]) -> Status {
     match help_text(words) {
         Some(text) => match put_all(&mut out, text.as_bytes()) {
             Ok(()) => Status::DONE,
-            Err(_) => Status {
-                code: 7,
-                number: 117,
-                at: out.faults(),
-                other: 0,
-            },
+            Err(_) => refusal(7, 117, out.faults()),
         },
         None => {
             let mut feed = StreamSource::<Brand, _>::new(rt.stdin());
