@@ -62,7 +62,7 @@ NEVER static void forward_once(const uint16_t *restrict block, int64_t *restrict
     }
 }
 
-NEVER static void inverse_once(const int32_t *restrict products, uint16_t *restrict out) {
+NEVER static void inverse_wide(const int32_t *restrict products, uint16_t *restrict out) {
     int64_t columns[64];
     for (int u = 0; u < 8; u++) {
         int64_t values[8], sums[8];
@@ -77,6 +77,46 @@ NEVER static void inverse_once(const int32_t *restrict products, uint16_t *restr
     }
 }
 
+// The samples of a row, whose values and sums stand a step apart: by the upper and the lower halves of the values.
+ALWAYS void row_samples(const int32_t *values, uint16_t *out, int step) {
+    int32_t high[8], low[8], high_sums[8], low_sums[8];
+    for (int u = 0; u < 8; u++) {
+        int32_t value = values[step * u];
+        high[u] = (value + 32768) >> 16;
+        low[u] = value - 65536 * high[u];
+    }
+    narrow_inverse(high, high_sums);
+    narrow_inverse(low, low_sums);
+    for (int x = 0; x < 8; x++) {
+        int32_t carried = (low_sums[x] >> 16) + (1 << 13) + (512 << 14);
+        out[step * x] = clamped((high_sums[x] + carried) >> 14);
+    }
+}
+
+ALWAYS uint32_t greatest_size(const int32_t *products) {
+    uint32_t greatest = 0;
+    for (int k = 0; k < 64; k++) {
+        uint32_t size = products[k] < 0 ? -(uint32_t)products[k] : (uint32_t)products[k];
+        greatest = size > greatest ? size : greatest;
+    }
+    return greatest;
+}
+
+NEVER static void inverse_once(const int32_t *restrict products, uint16_t *restrict out) {
+    if (greatest_size(products) > 1 << 15) {
+        inverse_wide(products, out);
+        return;
+    }
+    int32_t columns[64];
+    for (int u = 0; u < 8; u++) {
+        int32_t values[8], sums[8];
+        for (int v = 0; v < 8; v++) values[v] = products[8 * v + u];
+        narrow_inverse(values, sums);
+        for (int y = 0; y < 8; y++) columns[8 * y + u] = sums[y];
+    }
+    for (int y = 0; y < 8; y++) row_samples(columns + 8 * y, out + 8 * y, 1);
+}
+
 NEVER static void lanes_once(const int16_t *restrict products, uint16_t *restrict out) {
     int32_t columns[512];
     for (int j = 0; j < 64; j++) {
@@ -86,20 +126,7 @@ NEVER static void lanes_once(const int16_t *restrict products, uint16_t *restric
         for (int y = 0; y < 8; y++) columns[64 * y + j] = sums[y];
     }
     for (int y = 0; y < 8; y++) {
-        for (int lane = 0; lane < 8; lane++) {
-            int32_t high[8], low[8], high_sums[8], low_sums[8];
-            for (int u = 0; u < 8; u++) {
-                int32_t value = columns[64 * y + 8 * u + lane];
-                high[u] = (value + 32768) >> 16;
-                low[u] = value - 65536 * high[u];
-            }
-            narrow_inverse(high, high_sums);
-            narrow_inverse(low, low_sums);
-            for (int x = 0; x < 8; x++) {
-                int32_t carried = (low_sums[x] >> 16) + (1 << 13) + (512 << 14);
-                out[64 * y + 8 * x + lane] = clamped((high_sums[x] + carried) >> 14);
-            }
-        }
+        for (int lane = 0; lane < 8; lane++) row_samples(columns + 64 * y + lane, out + 64 * y + lane, 8);
     }
 }
 

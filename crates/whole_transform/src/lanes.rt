@@ -126,7 +126,7 @@ fn put_lane_samples(out: &mut [u16; 512], row: usize, lane: usize, values: [u16;
 
 /// The samples of a row, by the sums of the upper and of the lower halves of its values.
 #[inline(always)]
-fn samples_of_sums(values: [i32; 8]) -> [u16; 8]
+pub fn samples_of_sums(values: [i32; 8]) -> [u16; 8]
     requires { (u : ℕ) → u < 8 → unsigned_abs (at values u) ≤ 2 ^ 15 * 43284 }
     ensures { (x : ℕ) → x < 8 → slice_index result x ≡ sample (inverse_of (at values) x) }
 {

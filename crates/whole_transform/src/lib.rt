@@ -10,6 +10,7 @@
 //! odd half. Nothing is promised of how near the basis is to the cosines.
 #![tactic(auto)]
 
+mod block;
 mod coefficients;
 mod lanes;
 mod narrow;
@@ -19,6 +20,6 @@ mod samples;
 mod tests;
 mod wide;
 
+pub use block::inverse;
 pub use coefficients::forward;
 pub use lanes::inverse_lanes;
-pub use samples::inverse;

@@ -1,6 +1,6 @@
 //! Rows and columns of a block of 8 by 8.
 
-ghost use Rattle.std.specs.Prelude.{◌≡◌, ◌≢◌, ◌<◌, ◌+◌, ◌*◌, ℕ};
+ghost use Rattle.std.specs.Prelude.{◌≡◌, ◌≢◌, ◌<◌, ◌+◌, ◌*◌, ℕ, slice_index};
 ghost use Rattle.whole_transform.specs.Sums.{at};
 ghost use Rattle.whole_transform.specs.Transform.{cell};
 
@@ -93,5 +93,54 @@ pub fn put_wide_column(block: &mut [i64; 64], column: usize, values: [i64; 8])
 {
     for y in 0..8 {
         block[8 * y + column] = values[y];
+    }
+}
+
+/// The values of a row in 32 bits.
+#[inline(always)]
+pub fn narrow_row(block: &[i32; 64], row: usize) -> [i32; 8]
+    requires { row < 8 }
+    ensures { (x : ℕ) → x < 8 → at result x ≡ cell block.now row x }
+{
+    let start = 8 * row;
+    [
+        block[start],
+        block[start + 1],
+        block[start + 2],
+        block[start + 3],
+        block[start + 4],
+        block[start + 5],
+        block[start + 6],
+        block[start + 7],
+    ]
+}
+
+/// The values of a column in 32 bits.
+#[inline(always)]
+pub fn narrow_column(block: &[i32; 64], column: usize) -> [i32; 8]
+    requires { column < 8 }
+    ensures { (y : ℕ) → y < 8 → at result y ≡ cell block.now y column }
+{
+    [
+        block[column],
+        block[8 + column],
+        block[16 + column],
+        block[24 + column],
+        block[32 + column],
+        block[40 + column],
+        block[48 + column],
+        block[56 + column],
+    ]
+}
+
+/// Writes a row of samples.
+#[inline(always)]
+pub fn put_row_samples(out: &mut [u16; 64], row: usize, samples: [u16; 8])
+    requires { row < 8 }
+    ensures placed { (x : ℕ) → x < 8 → slice_index out.new (8 * row + x) ≡ slice_index samples x }
+    ensures kept { (y x : ℕ) → x < 8 → y ≢ row → slice_index out.new (8 * y + x) ≡ slice_index out.old (8 * y + x) }
+{
+    for x in 0..8 {
+        out[8 * row + x] = samples[x];
     }
 }

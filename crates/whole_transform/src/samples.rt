@@ -1,4 +1,4 @@
-//! From products to samples.
+//! From products to samples in 64 bits, which hold the sums of products of every size that is allowed.
 
 ghost use Rattle.std.specs.Prelude.{◌≡◌, ◌≤◌, ◌<◌, ◌+◌, ◌*◌, ◌^◌, ℕ, pos, ◌≢◌, ◌+ℤ◌, slice_index};
 ghost use Rattle.std.specs.Int.RustNames.{unsigned_abs};
@@ -9,8 +9,9 @@ ghost use Rattle.whole_transform.specs.Transform.{IsInverse, cell, clamped, floo
 use crate::places::{put_wide_column, row_of, widened_column};
 use crate::wide;
 
-/// Transforms a block of products, row by row, into its samples, row by row.
-pub fn inverse(products: &[i32; 64], out: &mut [u16; 64])
+/// Transforms a block of products.
+#[inline(never)]
+pub fn inverse_wide(products: &[i32; 64], out: &mut [u16; 64])
     requires sizes { (k : ℕ) → unsigned_abs (at products.now k) ≤ 2 ^ 22 }
     ensures samples { IsInverse products.now out.new }
     ensures range { (k : ℕ) → slice_index out.new k ≤ 1019 }

@@ -178,6 +178,22 @@ const DEEP_SAMPLES: [u16; 64] = [
     531, 396, 461,
 ];
 
+// The samples where every product is 32768.
+const HIGH_SAMPLES: [u16; 64] = [
+    1019, 4, 1019, 4, 1019, 4, 1019, 1019, 4, 1019, 4, 1019, 4, 689, 4, 46, 1019, 4, 1019, 4, 1019,
+    371, 1019, 882, 4, 1019, 4, 843, 4, 561, 216, 382, 1019, 4, 1019, 4, 1019, 436, 966, 712, 4,
+    689, 371, 561, 436, 519, 468, 493, 1019, 4, 1019, 216, 966, 468, 776, 628, 1019, 46, 882, 382,
+    712, 493, 628, 563,
+];
+
+// The samples where the last product is the least and the others are 0.
+const LAST_SAMPLES: [u16; 64] = [
+    4, 1019, 4, 1019, 4, 1019, 4, 1019, 1019, 4, 1019, 4, 1019, 4, 1019, 4, 4, 1019, 4, 1019, 4,
+    1019, 4, 1019, 1019, 4, 1019, 4, 1019, 4, 1019, 4, 4, 1019, 4, 1019, 4, 1019, 4, 1019, 1019, 4,
+    1019, 4, 1019, 4, 1019, 4, 4, 1019, 4, 1019, 4, 1019, 4, 1019, 1019, 4, 1019, 4, 1019, 4, 1019,
+    4,
+];
+
 /// A block of samples that has its requirement tested.
 fn sums_of(block: &[u16; 64]) -> Option<[i64; 64]> {
     if block.iter().all(|sample| *sample < 1024) {
@@ -197,6 +213,20 @@ fn samples_of(products: &[i32; 64]) -> Option<[u16; 64]> {
     {
         let mut out = [0u16; 64];
         inverse(products, &mut out);
+        Some(out)
+    } else {
+        None
+    }
+}
+
+/// The same in 64 bits, whatever the products are.
+fn wide_samples_of(products: &[i32; 64]) -> Option<[u16; 64]> {
+    if products
+        .iter()
+        .all(|product| product.unsigned_abs() <= 1 << 22)
+    {
+        let mut out = [0u16; 64];
+        samples::inverse_wide(products, &mut out);
         Some(out)
     } else {
         None
@@ -256,7 +286,9 @@ fn products_have_rounded_and_clamped_samples(rt: HostRuntime) -> Result<(), Fail
     let mut mixed = first_product(5000);
     mixed[30] = 2222;
     mixed[63] = -9000;
-    let cases: [(&str, [i32; 64], [u16; 64]); 10] = [
+    let mut last = [0i32; 64];
+    last[63] = -4_194_304;
+    let cases: [(&str, [i32; 64], [u16; 64]); 15] = [
         ("512 - 508", first_product(-16_260), [4; 64]),
         ("512 + 507", first_product(16_228), [1019; 64]),
         ("3 is brought to 4", first_product(-16_290), [4; 64]),
@@ -267,9 +299,19 @@ fn products_have_rounded_and_clamped_samples(rt: HostRuntime) -> Result<(), Fail
         ("less than half below", first_product(-16), [511; 64]),
         ("a wave is not transposed", wave, WAVE_SAMPLES),
         ("mixed", mixed, MIXED_SAMPLES),
+        ("all -2^15", [-32_768; 64], DEEP_SAMPLES),
+        ("all 2^15", [32_768; 64], HIGH_SAMPLES),
+        ("all -2^15 - 1", [-32_769; 64], DEEP_SAMPLES),
+        ("all 2^15 + 1", [32_769; 64], HIGH_SAMPLES),
+        ("the last alone is above 2^15", last, LAST_SAMPLES),
     ];
     for (name, products, samples) in cases {
         assert_eq!(rt; samples_of(&products), Some(samples), "{name}");
+        assert_eq!(rt;
+            wide_samples_of(&products),
+            Some(samples),
+            "{name}, in 64 bits"
+        );
     }
     Ok(())
 }

@@ -1,7 +1,7 @@
 use Rattle.std.proofs.Common.{◌≡◌, ◌<◌, ◌+◌, ◌*◌, ℕ, ◌*ℤ◌, length, slice_index}
 use Rattle.whole_transform.specs.Sums.{sum_to}
 use Rattle.whole_transform.specs.Transform.{basis, cell, sample}
-use Rattle.whole_transform.proofs.samples.inverse.Given as goal
+use Rattle.whole_transform.proofs.samples.inverse_wide.Given as goal
 
 abbrev pub invariant-loop-y : goal.invariant-loop-y
 invariant-loop-y l = record {

@@ -7,7 +7,7 @@ use Rattle.whole_transform.specs.Transform.{basis, cell, sample, inverse_sum}
 use Rattle.whole_transform.proofs.SumLemmas.{sum_ext, columns_then_rows}
 use Rattle.whole_transform.proofs.Halves.{column_small}
 use Rattle.whole_transform.proofs.Rounding.{sample_range, all_in_range}
-use Rattle.whole_transform.proofs.samples.inverse.Goals as goal
+use Rattle.whole_transform.proofs.samples.inverse_wide.Goals as goal
 
 pub loop-y-preserved : goal.loop-y-preserved
 loop-y-preserved c = record {
