@@ -1,5 +1,5 @@
 -- The ranges that a configuration's rules give.
-use Rattle.std.proofs.Common.{◌≡◌, ◌≢◌, ◌%◌, ℕ, List, [], ◌∷◌, Bool, true, zero, suc, get_or, refl, nat_le, inl, inr, ◌==◌, ◌&&◌, ◌||◌}
+use Rattle.std.proofs.Common.{◌≡◌, ◌≢◌, ◌<◌, ◌^◌, length, ◌%◌, ℕ, List, [], ◌∷◌, Bool, true, zero, suc, get_or, refl, nat_le, inl, inr, ◌==◌, ◌&&◌, ◌||◌}
 use Rattle.std.proofs.lemmas.Bool.{and_parts, or_cases, leb-true, eqb-true}
 use Rattle.std.specs.List.{list_all}
 use Rattle.rec_bytes.specs.Configuration.{Fields, field_rules, picture_rules, coding_rules, take_rules, is_config, within, is_even}
@@ -31,9 +31,9 @@ even_where mode height h some = elim (or_cases (mode == 0) (is_even height) h) [
 ]
 
 -- a configuration's fields are in their ranges
-pub in_range : (f : Fields) → is_config f ≡ true → IsInRange f
+pub in_range : (f : Fields) → is_config f ≡ true → f.start < 2 ^ 32 → length f.take_id ≡ 16 → length f.encoder ≡ 4 → IsInRange f
 unfolding field_rules picture_rules coding_rules take_rules
-in_range f h =
+in_range f h start take_id encoder =
     let width_kept : (within 2 f.width MAX_WIDTH && is_even f.width) ≡ true = one f 0 h in
     let height_kept : (within 1 f.height MAX_HEIGHT && (f.interlace == 0 || is_even f.height)) ≡ true = one f 1 h in
     let interlace_kept : (nat_le f.interlace MAX_INTERLACE) ≡ true = one f 2 h in
@@ -69,4 +69,7 @@ in_range f h =
       part = is_within 1 f.part MAX_PART part_kept;
       max_frames = is_within 1 f.max_frames MAX_FRAMES max_frames_kept;
       lag = is_within 1 f.lag MAX_LAG lag_kept;
+      start = start;
+      take_id = take_id;
+      encoder = encoder;
     }

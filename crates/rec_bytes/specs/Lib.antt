@@ -1,4 +1,5 @@
 pub mod Configuration
+pub mod Laws
 pub mod Places
 pub mod Ranges
 pub mod Views

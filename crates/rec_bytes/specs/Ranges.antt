@@ -1,5 +1,5 @@
 -- The range of each field of a configuration (own). docs/FORMATS.md, "Configuration".
-use Rattle.std.specs.Prelude.{◌≡◌, ◌≢◌, ◌≤◌, ◌%◌, ℕ}
+use Rattle.std.specs.Prelude.{◌≡◌, ◌≢◌, ◌≤◌, ◌<◌, ◌^◌, ◌%◌, ℕ, length}
 use Rattle.rec_bytes.specs.Configuration.{Fields}
 use Rattle.rec_bytes.specs.declared.layout.TheConstants.{MAX_WIDTH, MAX_HEIGHT, MAX_INTERLACE, MAX_RATE, MAX_ASPECT, MAX_LOG2, MAX_INDEX, MAX_WEIGHTS, MAX_CODING, MAX_DROP, MAX_BUDGET, MAX_PART, MAX_FRAMES, MAX_LAG}
 
@@ -27,3 +27,6 @@ pub record IsInRange (f : Fields) : Type 0 where
   pub part : IsWithin 1 f.part MAX_PART
   pub max_frames : IsWithin 1 f.max_frames MAX_FRAMES
   pub lag : IsWithin 1 f.lag MAX_LAG
+  pub start : f.start < 2 ^ 32
+  pub take_id : length f.take_id ≡ 16
+  pub encoder : length f.encoder ≡ 4

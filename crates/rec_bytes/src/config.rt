@@ -1,4 +1,4 @@
-ghost use Rattle.std.specs.Prelude.{◌≡◌, true};
+ghost use Rattle.std.specs.Prelude.{◌≡◌, ◌<◌, ◌^◌, true, length};
 ghost use Rattle.rec_bytes.specs.Configuration.{is_config};
 
 /// The configuration of a take (own format: docs/FORMATS.md, "Configuration"). Its type keeps the ranges
@@ -79,5 +79,14 @@ impl Config {
     /// Shows the ranges that the type keeps, one by one. It does nothing when it runs.
     pub fn ranges(&self)
         ensures { IsInRange (view self.now) }
-    {}
+    {
+        sizes(self.start, &self.take_id, &self.encoder);
+    }
 }
+
+/// Shows the sizes that the fields' types keep. It does nothing when it runs.
+fn sizes(start: u32, take_id: &[u8; 16], encoder: &[u8; 4])
+    ensures start { start < 2 ^ 32 }
+    ensures take_id { length take_id.now ≡ 16 }
+    ensures encoder { length encoder.now ≡ 4 }
+{}
