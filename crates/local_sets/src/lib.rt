@@ -1,0 +1,19 @@
+//! Local sets (SMPTE ST 336): a key, a length, and items of a local tag, a length and a value.
+//!
+//! The crates above rest on `put_set`, which writes the `local_set` of a list of items, and on `put_items`,
+//! which writes the items alone. Both are of `specs/Sets.antt`, so each set of a format is a table of items
+//! there and the same table in code, and one loop writes any of them.
+//!
+//! Terms: a *local tag* is a number of two bytes that names an item inside its set; a *batch* is a count, the
+//! size of an item, and the items. Lengths have two bytes in items and three in sets.
+//!
+//! Nothing is said of what a tag means.
+#![tactic(auto)]
+
+mod set;
+#[cfg(test)]
+mod tests;
+mod value;
+
+pub use set::{Item, items_len, put_items, put_set};
+pub use value::Value;

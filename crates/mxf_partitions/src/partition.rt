@@ -1,0 +1,329 @@
+//! The item with which a partition begins.
+
+ghost use Rattle.std.specs.Prelude.{[], ◌∷◌, ◌≡◌, ◌+◌, ◌≤◌, ◌++◌, length};
+ghost use Rattle.byteorder.specs.Endian.{big_bytes};
+ghost use Rattle.klv.specs.Items.{klv_head};
+ghost use Rattle.rec_bytes.specs.Places.{with_bytes};
+ghost use Rattle.mxf_partitions.specs.Partitions.{kind_byte, status_byte, pack_key, label_batch, partition_pack};
+
+use crate::writes::{put_head, put_label};
+use rec_bytes::{put_u16, put_u32, put_u64};
+
+/// Bytes of a partition pack with one label.
+pub const PACK_LEN: usize = 124;
+
+/// What the keys of all partition packs begin with (SMPTE ST 377-1).
+pub const PARTITION_KEY_START: [u8; 13] = [
+    0x06, 0x0e, 0x2b, 0x34, 0x02, 0x05, 0x01, 0x01, 0x0d, 0x01, 0x02, 0x01, 0x01,
+];
+
+/// The label of the operational pattern of our files (our own constant, after SMPTE ST 378, OP1a).
+pub const OPERATIONAL_PATTERN: [u8; 16] = [
+    0x06, 0x0e, 0x2b, 0x34, 0x04, 0x01, 0x01, 0x01, 0x0d, 0x01, 0x02, 0x01, 0x01, 0x01, 0x09, 0x00,
+];
+
+/// The label of the essence container of our files (our own constant, after SMPTE RDD 44).
+pub const ESSENCE_CONTAINER_LABEL: [u8; 16] = [
+    0x06, 0x0e, 0x2b, 0x34, 0x04, 0x01, 0x01, 0x0d, 0x0d, 0x01, 0x03, 0x01, 0x02, 0x1c, 0x01, 0x00,
+];
+
+/// Which part of the file a partition is (SMPTE ST 377-1).
+#[derive(Clone, Copy, Debug, PartialEq, Eq)]
+pub enum PartitionKind {
+    /// The first.
+    Header,
+    /// One between the first and the last.
+    Body,
+    /// The last.
+    Footer,
+}
+
+/// Whether what a partition says of the file is final, and whether it is all there (SMPTE ST 377-1).
+#[derive(Clone, Copy, Debug, PartialEq, Eq)]
+pub enum PartitionStatus {
+    /// Values may change, and some are missing.
+    OpenIncomplete,
+    /// Values are final, and some are missing.
+    ClosedIncomplete,
+    /// Values may change, and all are there.
+    OpenComplete,
+    /// Values are final, and all are there.
+    ClosedComplete,
+}
+
+/// What a partition pack says (SMPTE ST 377-1). Places are counted from the file's first byte.
+#[derive(Clone, Copy, Debug, PartialEq, Eq)]
+pub struct Partition {
+    /// Which part of the file the partition is.
+    pub kind: PartitionKind,
+    /// Whether its values are final and all there.
+    pub status: PartitionStatus,
+    /// Major version of the format.
+    pub major: u16,
+    /// Minor version of the format.
+    pub minor: u16,
+    /// KLV alignment grid, in bytes.
+    pub kag: u32,
+    /// Place of this pack.
+    pub this: u64,
+    /// Place of the pack before, 0 for the first.
+    pub previous: u64,
+    /// Place of the footer's pack, 0 where it isn't known.
+    pub footer: u64,
+    /// Bytes of the header metadata in this partition.
+    pub header_bytes: u64,
+    /// Bytes of the index tables in this partition.
+    pub index_bytes: u64,
+    /// Number of the stream of index tables, 0 where there are none.
+    pub index_sid: u32,
+    /// Bytes of the essence stream before this partition.
+    pub body_offset: u64,
+    /// Number of the essence stream, 0 where there is none.
+    pub body_sid: u32,
+    /// Label of the operational pattern.
+    pub pattern: [u8; 16],
+    /// How many labels of essence containers there are. Only one is written.
+    pub label_count: u32,
+    /// Label of the essence container.
+    pub label: [u8; 16],
+}
+
+/// Writes the pack of a partition, which has one label.
+pub fn put_partition(p: &Partition, out: &mut [u8; 124])
+    requires { p.now.label_count ≡ 1 }
+    ensures { out.new ≡ partition_pack p.now }
+{
+    put_key(p, out);
+    put_version(p, out, 20);
+    put_places(p, out, 28);
+    put_sizes(p, out, 52);
+    put_body(p, out, 72);
+    put_labels(p, out, 84);
+}
+
+fn put_key(p: &Partition, out: &mut [u8])
+    requires { 20 ≤ length out.old }
+    ensures { out.new ≡ with_bytes out.old 0 (klv_head (pack_key p.now.kind p.now.status) 3 104) }
+{
+    put_head(&key_of(p), 104, out, 0);
+}
+
+fn key_of(p: &Partition) -> [u8; 16]
+    ensures { result ≡ pack_key p.now.kind p.now.status }
+{
+    [
+        0x06,
+        0x0e,
+        0x2b,
+        0x34,
+        0x02,
+        0x05,
+        0x01,
+        0x01,
+        0x0d,
+        0x01,
+        0x02,
+        0x01,
+        0x01,
+        kind_byte(p.kind),
+        status_byte(p.status),
+        0,
+    ]
+}
+
+fn kind_byte(kind: PartitionKind) -> u8
+    ensures { result ≡ kind_byte kind }
+{
+    match kind {
+        PartitionKind::Header => 2,
+        PartitionKind::Body => 3,
+        PartitionKind::Footer => 4,
+    }
+}
+
+fn status_byte(status: PartitionStatus) -> u8
+    ensures { result ≡ status_byte status }
+{
+    match status {
+        PartitionStatus::OpenIncomplete => 1,
+        PartitionStatus::ClosedIncomplete => 2,
+        PartitionStatus::OpenComplete => 3,
+        PartitionStatus::ClosedComplete => 4,
+    }
+}
+
+fn put_version(p: &Partition, out: &mut [u8], at: usize)
+    requires { at + 8 ≤ length out.old }
+    ensures { out.new ≡ with_bytes out.old at (big_bytes 2 p.now.major ++ big_bytes 2 p.now.minor ++ big_bytes 4 p.now.kag) }
+{
+    put_u16(out, at, p.major);
+    put_u16(out, at + 2, p.minor);
+    put_u32(out, at + 4, p.kag);
+}
+
+fn put_places(p: &Partition, out: &mut [u8], at: usize)
+    requires { at + 24 ≤ length out.old }
+    ensures { out.new ≡ with_bytes out.old at (big_bytes 8 p.now.this ++ big_bytes 8 p.now.previous ++ big_bytes 8 p.now.footer) }
+{
+    put_u64(out, at, p.this);
+    put_u64(out, at + 8, p.previous);
+    put_u64(out, at + 16, p.footer);
+}
+
+fn put_sizes(p: &Partition, out: &mut [u8], at: usize)
+    requires { at + 20 ≤ length out.old }
+    ensures { out.new ≡ with_bytes out.old at (big_bytes 8 p.now.header_bytes ++ big_bytes 8 p.now.index_bytes ++ big_bytes 4 p.now.index_sid) }
+{
+    put_u64(out, at, p.header_bytes);
+    put_u64(out, at + 8, p.index_bytes);
+    put_u32(out, at + 16, p.index_sid);
+}
+
+fn put_body(p: &Partition, out: &mut [u8], at: usize)
+    requires { at + 12 ≤ length out.old }
+    ensures { out.new ≡ with_bytes out.old at (big_bytes 8 p.now.body_offset ++ big_bytes 4 p.now.body_sid) }
+{
+    put_u64(out, at, p.body_offset);
+    put_u32(out, at + 8, p.body_sid);
+}
+
+// The pattern, and the batch of the one label.
+fn put_labels(p: &Partition, out: &mut [u8], at: usize)
+    requires { at + 40 ≤ length out.old }
+    ensures pattern { length p.now.pattern ≡ 16 }
+    ensures label { length p.now.label ≡ 16 }
+    ensures written { out.new ≡ with_bytes out.old at (p.now.pattern ++ label_batch (p.now.label ∷ [])) }
+{
+    put_label(&p.pattern, out, at);
+    put_u32(out, at + 16, 1);
+    put_u32(out, at + 20, 16);
+    put_label(&p.label, out, at + 24);
+}
+
+#[cfg(test)]
+mod tests {
+    use super::*;
+
+    /// The pack of the header partition of a file of ours with nothing known yet.
+    const HEADER: Partition = Partition {
+        kind: PartitionKind::Header,
+        status: PartitionStatus::OpenIncomplete,
+        major: 1,
+        minor: 3,
+        kag: 1,
+        this: 0,
+        previous: 0,
+        footer: 0,
+        header_bytes: 3165,
+        index_bytes: 0,
+        index_sid: 0,
+        body_offset: 0,
+        body_sid: 0,
+        pattern: OPERATIONAL_PATTERN,
+        label_count: 1,
+        label: ESSENCE_CONTAINER_LABEL,
+    };
+
+    // docs/FORMATS.md, "Partition packs": the example, written by hand.
+    const HEADER_BYTES: [u8; 124] = [
+        0x06, 0x0e, 0x2b, 0x34, 0x02, 0x05, 0x01, 0x01, 0x0d, 0x01, 0x02, 0x01, 0x01, 0x02, 0x01,
+        0x00, 0x83, 0x00, 0x00, 0x68, 0x00, 0x01, 0x00, 0x03, 0x00, 0x00, 0x00, 0x01, 0x00, 0x00,
+        0x00, 0x00, 0x00, 0x00, 0x00, 0x00, 0x00, 0x00, 0x00, 0x00, 0x00, 0x00, 0x00, 0x00, 0x00,
+        0x00, 0x00, 0x00, 0x00, 0x00, 0x00, 0x00, 0x00, 0x00, 0x00, 0x00, 0x00, 0x00, 0x0c, 0x5d,
+        0x00, 0x00, 0x00, 0x00, 0x00, 0x00, 0x00, 0x00, 0x00, 0x00, 0x00, 0x00, 0x00, 0x00, 0x00,
+        0x00, 0x00, 0x00, 0x00, 0x00, 0x00, 0x00, 0x00, 0x00, 0x06, 0x0e, 0x2b, 0x34, 0x04, 0x01,
+        0x01, 0x01, 0x0d, 0x01, 0x02, 0x01, 0x01, 0x01, 0x09, 0x00, 0x00, 0x00, 0x00, 0x01, 0x00,
+        0x00, 0x00, 0x10, 0x06, 0x0e, 0x2b, 0x34, 0x04, 0x01, 0x01, 0x0d, 0x0d, 0x01, 0x03, 0x01,
+        0x02, 0x1c, 0x01, 0x00,
+    ];
+
+    /// The example with other bytes at some places.
+    fn changed(changes: &[(usize, u8)]) -> [u8; 124] {
+        let mut bytes = HEADER_BYTES;
+        for (at, byte) in changes {
+            if *at < 124 {
+                bytes[*at] = *byte;
+            }
+        }
+        bytes
+    }
+
+    // Numbers of a file of three frames of 50 bytes, by hand: a second body partition at 3,561 = 0DE9h, whose
+    // partition before is at 3,289 = 0CD9h, with a segment of 162 = A2h bytes behind 148 = 94h bytes of
+    // essence; a footer at 3,635 = 0E33h with a segment of 173 = ADh bytes.
+    #[test]
+    fn each_field_stands_at_its_place(rt: HostRuntime) {
+        let body = Partition {
+            kind: PartitionKind::Body,
+            this: 3561,
+            previous: 3289,
+            header_bytes: 0,
+            index_bytes: 162,
+            index_sid: 2,
+            body_offset: 148,
+            body_sid: 1,
+            ..HEADER
+        };
+        let footer = Partition {
+            kind: PartitionKind::Footer,
+            status: PartitionStatus::ClosedComplete,
+            this: 3635,
+            previous: 3289,
+            footer: 3635,
+            index_bytes: 173,
+            index_sid: 2,
+            ..HEADER
+        };
+        let statuses = Partition {
+            status: PartitionStatus::ClosedIncomplete,
+            ..HEADER
+        };
+        let complete = Partition {
+            status: PartitionStatus::OpenComplete,
+            ..HEADER
+        };
+        let cases: [(&str, Partition, &[(usize, u8)]); 5] = [
+            ("header", HEADER, &[]),
+            (
+                "body",
+                body,
+                &[
+                    (13, 3),
+                    (34, 0x0d),
+                    (35, 0xe9),
+                    (42, 0x0c),
+                    (43, 0xd9),
+                    (58, 0),
+                    (59, 0),
+                    (67, 0xa2),
+                    (71, 2),
+                    (79, 0x94),
+                    (83, 1),
+                ],
+            ),
+            (
+                "footer",
+                footer,
+                &[
+                    (13, 4),
+                    (14, 4),
+                    (34, 0x0e),
+                    (35, 0x33),
+                    (42, 0x0c),
+                    (43, 0xd9),
+                    (50, 0x0e),
+                    (51, 0x33),
+                    (67, 0xad),
+                    (71, 2),
+                ],
+            ),
+            ("closed incomplete", statuses, &[(14, 2)]),
+            ("open complete", complete, &[(14, 3)]),
+        ];
+        for (name, partition, changes) in cases {
+            let mut out = [0xee; 124];
+            put_partition(&partition, &mut out);
+            assert_eq!(rt; out, changed(changes), "{name}");
+        }
+    }
+}

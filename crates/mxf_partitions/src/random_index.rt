@@ -1,0 +1,128 @@
+//! The file's last item, which names its partitions.
+
+ghost use Rattle.std.specs.Prelude.{◌≡◌, ◌+◌, ◌*◌, ◌≤◌, length};
+ghost use Rattle.std.specs.List.{flat_map};
+ghost use Rattle.rec_bytes.specs.Places.{with_bytes};
+ghost use Rattle.mxf_partitions.specs.RandomIndex.{random_index_pack, random_index_head, random_index_end, entry_bytes};
+
+use crate::writes::put_head;
+use rec_bytes::{put_u32, put_u64};
+
+/// The key of a random index pack (SMPTE ST 377-1).
+pub const RANDOM_INDEX_KEY: [u8; 16] = [
+    0x06, 0x0e, 0x2b, 0x34, 0x02, 0x05, 0x01, 0x01, 0x0d, 0x01, 0x02, 0x01, 0x01, 0x11, 0x01, 0x00,
+];
+
+/// Most entries of a random index pack whose length has three bytes.
+pub const MAX_ENTRIES: u32 = 1_398_100;
+
+/// A partition as the random index pack names it (SMPTE ST 377-1).
+#[derive(Clone, Copy, Debug, PartialEq, Eq)]
+pub struct PackEntry {
+    /// Number of the essence stream in the partition, 0 where there is none.
+    pub body_sid: u32,
+    /// Place of the partition's pack.
+    pub at: u64,
+}
+
+/// Bytes of a random index pack with so many entries.
+pub fn random_index_len(count: u32) -> usize
+    ensures { result ≡ 24 + 12 * count }
+{
+    24 + 12 * (count as usize)
+}
+
+/// Writes a random index pack at the front, and answers how many bytes it has.
+pub fn put_random_index(entries: &[PackEntry], out: &mut [u8]) -> usize
+    requires few { length entries.now ≤ MAX_ENTRIES }
+    requires room { 24 + 12 * length entries.now ≤ length out.old }
+    ensures count { result ≡ 24 + 12 * length entries.now }
+    ensures written { out.new ≡ with_bytes out.old 0 (random_index_pack entries.now) }
+{
+    let count = entries.len() as u32;
+    let first = put_random_index_head(count, out, 0);
+    let end = put_entries(entries, out, first);
+    put_random_index_end(count, out, end)
+}
+
+fn put_entries(entries: &[PackEntry], out: &mut [u8], at: usize) -> usize
+    requires room { at + 12 * length entries.now ≤ length out.old }
+    ensures behind { result ≡ at + 12 * length entries.now }
+    ensures written { out.new ≡ with_bytes out.old at (flat_map entry_bytes entries.now) }
+{
+    let mut end = at;
+    'entries: for k in 0..entries.len() {
+        end = put_pack_entry(&entries[k], out, end);
+    }
+    end
+}
+
+/// Writes what stands before the entries of a random index pack, at a place, and answers the place behind.
+pub fn put_random_index_head(count: u32, out: &mut [u8], at: usize) -> usize
+    requires few { count ≤ MAX_ENTRIES }
+    requires room { at + 20 ≤ length out.old }
+    ensures behind { result ≡ at + 20 }
+    ensures written { out.new ≡ with_bytes out.old at (random_index_head count) }
+{
+    put_head(&RANDOM_INDEX_KEY, 12 * u64::from(count) + 4, out, at)
+}
+
+/// Writes an entry of a random index pack at a place, and answers the place behind.
+pub fn put_pack_entry(entry: &PackEntry, out: &mut [u8], at: usize) -> usize
+    requires room { at + 12 ≤ length out.old }
+    ensures behind { result ≡ at + 12 }
+    ensures written { out.new ≡ with_bytes out.old at (entry_bytes entry.now) }
+{
+    put_u32(out, at, entry.body_sid);
+    put_u64(out, at + 4, entry.at);
+    at + 12
+}
+
+/// Writes what stands behind the entries of a random index pack, at a place, and answers the place behind.
+pub fn put_random_index_end(count: u32, out: &mut [u8], at: usize) -> usize
+    requires few { count ≤ MAX_ENTRIES }
+    requires room { at + 4 ≤ length out.old }
+    ensures behind { result ≡ at + 4 }
+    ensures written { out.new ≡ with_bytes out.old at (random_index_end count) }
+{
+    put_u32(out, at, 24 + 12 * count);
+    at + 4
+}
+
+#[cfg(test)]
+mod tests {
+    use super::*;
+
+    // docs/FORMATS.md, "Random index pack": the example, written by hand.
+    const BYTES: [u8; 60] = [
+        0x06, 0x0e, 0x2b, 0x34, 0x02, 0x05, 0x01, 0x01, 0x0d, 0x01, 0x02, 0x01, 0x01, 0x11, 0x01,
+        0x00, 0x83, 0x00, 0x00, 0x28, 0x00, 0x00, 0x00, 0x00, 0x00, 0x00, 0x00, 0x00, 0x00, 0x00,
+        0x00, 0x00, 0x00, 0x00, 0x00, 0x01, 0x00, 0x00, 0x00, 0x00, 0x00, 0x00, 0x0c, 0xd9, 0x00,
+        0x00, 0x00, 0x00, 0x00, 0x00, 0x00, 0x00, 0x00, 0x00, 0x0e, 0x33, 0x00, 0x00, 0x00, 0x3c,
+    ];
+
+    #[test]
+    fn entries_stand_in_order_before_the_length_and_nothing_behind(rt: HostRuntime) {
+        let entries = [
+            PackEntry { body_sid: 0, at: 0 },
+            PackEntry {
+                body_sid: 1,
+                at: 3289,
+            },
+            PackEntry {
+                body_sid: 0,
+                at: 3635,
+            },
+        ];
+        let mut out = [0xee; 62];
+        let mut want = [0xee; 62];
+        want[..60].copy_from_slice(&BYTES);
+        assert_eq!(rt; random_index_len(3), 60);
+        assert_eq!(rt;
+            put_random_index(&entries, &mut out),
+            60,
+            "bytes of the pack"
+        );
+        assert_eq!(rt; out, want, "the pack, and the bytes behind it");
+    }
+}
