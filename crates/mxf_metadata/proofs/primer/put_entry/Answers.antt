@@ -1,0 +1,13 @@
+use Rattle.std.proofs.Common.{ℕ, ◌+◌, List, ◌++◌, arith, refl}
+use Rattle.byteorder.specs.Endian.{big_bytes}
+use Rattle.local_sets.specs.Writes.{both}
+use Rattle.mxf_metadata.specs.declared.labels.TheConstants.{TAG_LABEL_HEAD}
+use Rattle.mxf_metadata.proofs.primer.put_entry.Goals as goal
+
+pub returns-clause-written : goal.returns-clause-written
+returns-clause-written c =
+    let tag : List ℕ = big_bytes 2 c.args.tag.now.tag in
+    let old : List ℕ = c.args.out.now in
+    let room = c.requires in
+    let front = both old c.put_u16.new.out c.put_bytes.new.out tag TAG_LABEL_HEAD c.args.at (c.args.at + 2) (omega arith) refl c.put_u16.ensures c.put_bytes.ensures in
+    both old c.put_bytes.new.out c.put_u16-2.new.out (tag ++ TAG_LABEL_HEAD) tag c.args.at (c.args.at + 16) (omega arith) refl front c.put_u16-2.ensures

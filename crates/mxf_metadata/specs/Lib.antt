@@ -1,0 +1,12 @@
+pub mod Identifiers
+pub mod Laws
+pub mod Lengths
+pub mod Links
+pub mod Listed
+pub mod Metadata
+pub mod Pictures
+pub mod Primer
+pub mod Sets
+pub mod Sizes
+pub mod Tags
+pub mod Writing
