@@ -1,0 +1,6 @@
+pub mod KeptLemmas
+pub mod SegmentLemmas
+pub mod TailLemmas
+pub mod LookLemmas
+pub mod WalkLemmas
+pub mod WriteLemmas

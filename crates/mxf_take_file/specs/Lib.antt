@@ -1,0 +1,9 @@
+pub mod Essence
+pub mod Extents
+pub mod Grown
+pub mod Kept
+pub mod Layout
+pub mod Laws
+pub mod Packs
+pub mod Segments
+pub mod Standing
