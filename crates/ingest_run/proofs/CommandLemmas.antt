@@ -1,11 +1,11 @@
 -- What a run says by its words.
 use Rattle.std.proofs.Common.{◌≡◌, ◌≢◌, ℕ, List, [], Option, Some, None, refl, sym, ap, ◌∙◌, subst, arith, inl, inr, ⊎_elim}
-use Rattle.std.proofs.lemmas.List.{append-nil}
 use Rattle.clap.specs.Walk.{Text}
+use Rattle.rec_bytes.specs.Configuration.{Fields}
 use Rattle.rec_bytes.specs.declared.status.Status.{Status}
 use Rattle.raw_feed.specs.declared.fault.FeedFault.{FeedFault}
 use Rattle.raw_feed.specs.declared.fault.FeedFault.TheVariants.{Memory, FeedHead, Marker, FeedCut, SourceFault, TooLong, UnitLong}
-use Rattle.raw_feed.specs.Told.{Told, after}
+use Rattle.raw_feed.specs.Told.{Told}
 use Rattle.raw_feed.specs.Items.{Ending, Clean, Full, Broken}
 use Rattle.raw_feed.specs.Reading.{IfTold}
 use Rattle.ingest_run.specs.declared.words.Command.{Command}
@@ -14,21 +14,19 @@ use Rattle.ingest_run.specs.Words.{command_of}
 use Rattle.ingest_run.specs.Statuses.{feed_answer, ending_answer, words_answer, memory_answer, sink_answer}
 use Rattle.ingest_run.specs.Runs.{Wraps, SaysFor, Says, Runs}
 use Rattle.ingest_run.specs.Causes.{HasFeedCauses, HasCauses, IsFeedAnswer}
+use Rattle.ingest_run.proofs.EndLemmas.{untouched}
 use Rattle.ingest_run.proofs.PassLemmas.{Gains-nil}
 
 -- words that are `wrap` say what it says
-pub says_wrap : (words : List Text) (told now : Option Told) (old new : Option (List ℕ)) (status : Status) → command_of words ≡ Some Wrap → IfTold told now (λ before. Runs Wraps before now old new status) → IfTold told now (λ before. Runs (Says words) before now old new status)
-says_wrap words None now old new status is h = h
-says_wrap words (Some before) now old new status is h =
-    subst (λ (c : Option Command). Runs (SaysFor c) before now old new status) (sym is) h
-
-untouched : (before : Told) → Some before ≡ Some (after 0 before)
-untouched before = ap Some (λ i. record { given = sym (append-nil before.given) i; left = before.left })
+pub says_wrap : (closed : Fields → List (List ℕ) → List ℕ) (words : List Text) (told now : Option Told) (old new : Option (List ℕ)) (status : Status) → command_of words ≡ Some Wrap → IfTold told now (λ before. Runs (Wraps closed) before now old new status) → IfTold told now (λ before. Runs (Says closed words) before now old new status)
+says_wrap closed words None now old new status is h = h
+says_wrap closed words (Some before) now old new status is h =
+    subst (λ (c : Option Command). Runs (SaysFor closed c) before now old new status) (sym is) h
 
 -- words that are no command say so
-pub says_faulty : (words : List Text) (told : Option Told) (w : Option (List ℕ)) → command_of words ≡ None → IfTold told told (λ before. Runs (Says words) before told w w words_answer)
-says_faulty words None w is = refl
-says_faulty words (Some before) w is = record {
+pub says_faulty : (closed : Fields → List (List ℕ) → List ℕ) (words : List Text) (told : Option Told) (w : Option (List ℕ)) → command_of words ≡ None → IfTold told told (λ before. Runs (Says closed words) before told w w words_answer)
+says_faulty closed words None w is = refl
+says_faulty closed words (Some before) w is = record {
   count = 0;
   gave = untouched before;
   written = [];
@@ -42,19 +40,19 @@ says_faulty words (Some before) w is = record {
   all = λ one seven. refl;
 }
   where
-    faulty : (bytes : List ℕ) → Says words bytes [] words_answer
-    faulty bytes = subst (λ (c : Option Command). SaysFor c bytes [] words_answer) (sym is) (refl, refl)
+    faulty : (bytes : List ℕ) → Says closed words bytes [] words_answer
+    faulty bytes = subst (λ (c : Option Command). SaysFor closed c bytes [] words_answer) (sym is) (refl, refl)
 
 -- of no bytes a command says nothing but that they are cut
-says_nothing : (command : Option Command) → (answered : Status) × SaysFor command [] [] answered
-says_nothing None = (words_answer, (refl, refl))
-says_nothing (Some Wrap) =
-    (ending_answer 0 (Broken (FeedCut 0)), record { units = []; ending = Broken (FeedCut 0); feed = inr (refl, (refl, omega arith)); elements = refl; answered = refl })
+says_nothing : (closed : Fields → List (List ℕ) → List ℕ) (command : Option Command) → (answered : Status) × SaysFor closed command [] [] answered
+says_nothing closed None = (words_answer, (refl, refl))
+says_nothing closed (Some Wrap) =
+    (ending_answer 0 (Broken (FeedCut 0)), inr (record { ending = Broken (FeedCut 0); feed = (refl, omega arith); nothing = refl; answered = refl }))
 
-pub says_memory : (words : List Text) (told : Option Told) (w : Option (List ℕ)) → IfTold told told (λ before. Runs (Says words) before told w w memory_answer)
-says_memory words None w = refl
-says_memory words (Some before) w =
-    let s = says_nothing (command_of words) in
+pub says_memory : (closed : Fields → List (List ℕ) → List ℕ) (words : List Text) (told : Option Told) (w : Option (List ℕ)) → IfTold told told (λ before. Runs (Says closed words) before told w w memory_answer)
+says_memory closed words None w = refl
+says_memory closed words (Some before) w =
+    let s = says_nothing closed (command_of words) in
     record {
       count = 0;
       gave = untouched before;
@@ -110,7 +108,7 @@ causes_faulty words source sink is = record {
   faulty = λ e. is;
   refused = λ e. inl refl;
   source = λ e. absurd (omega arith);
-  source_kept = λ e. refl;
+  source_kept = λ e. inl refl;
   sink = λ e. absurd (omega arith);
   sink_kept = λ e. refl;
 }
@@ -122,7 +120,7 @@ causes_memory words source sink = record {
   faulty = λ e. absurd (omega arith);
   refused = λ e. inr refl;
   source = λ e. absurd (omega arith);
-  source_kept = λ e. refl;
+  source_kept = λ e. inl refl;
   sink = λ e. absurd (omega arith);
   sink_kept = λ e. refl;
 }

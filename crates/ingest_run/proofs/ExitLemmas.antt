@@ -1,149 +1,163 @@
--- The exits of `wrap`, over a source that tells its bytes or doesn't.
-use Rattle.std.proofs.Common.{◌≡◌, ◌≢◌, ℕ, ◌+◌, ◌<◌, ◌==◌, List, [], length, Bool, true, false, Option, Some, None, Ok, Err, refl, sym, ap, ◌∙◌, subst, arith, inl, inr}
-use Rattle.std.proofs.lemmas.Bool.{ne_eqb, eq-eqb}
+-- The exits of `wrap`, over a source that tells its bytes or doesn't, and their causes.
+use Rattle.std.proofs.Common.{◌≡◌, ◌≢◌, ℕ, ◌<◌, List, [], ◌∷◌, ◌++◌, length, Option, Some, None, Ok, Err, refl, sym, ap, ◌∙◌, subst, arith, inl, inr, ◌⊎◌}
+use Rattle.std.proofs.lemmas.Bool.{cases_eq}
+use Rattle.rec_bytes.specs.Configuration.{Fields}
 use Rattle.rec_bytes.specs.declared.status.Status.{Status}
-use Rattle.klv.specs.Picture.{picture_element}
 use Rattle.raw_feed.specs.declared.fault.FeedFault.{FeedFault}
-use Rattle.raw_feed.specs.declared.fault.FeedFault.TheVariants.{Memory, FeedHead, Marker, FeedCut, SourceFault, TooLong, UnitLong}
-use Rattle.raw_feed.specs.declared.stage.Stage.{Stage}
+use Rattle.raw_feed.specs.declared.fault.FeedFault.TheVariants.{Memory}
 use Rattle.raw_feed.specs.declared.stage.Stage.TheVariants.{Open}
 use Rattle.raw_feed.specs.Faults.{Rose}
 use Rattle.raw_feed.specs.Told.{Told}
 use Rattle.raw_feed.specs.Written.{Writes}
-use Rattle.raw_feed.specs.Breaks.{Breaks, HasFeedCause}
-use Rattle.raw_feed.specs.Reading.{Reading, IfTold, ReadsHead, BreaksHead, GivesUnit, EndsClean, RefusesItem, GivesMarker, RefusesMarker, HasReaderCause}
-use Rattle.ingest_run.specs.Statuses.{answer, feed_answer, ending_answer}
-use Rattle.raw_feed.specs.Items.{Ending, Broken}
+use Rattle.raw_feed.specs.Items.{Broken}
+use Rattle.raw_feed.specs.Breaks.{HasFeedCause}
+use Rattle.raw_feed.specs.Reading.{Reading, IfTold, ReadsHead, BreaksHead, GivesUnit}
+use Rattle.take_core.specs.declared.place.Place.{Place}
+use Rattle.ingest_run.specs.Statuses.{feed_answer, sink_answer}
 use Rattle.ingest_run.specs.Runs.{Wraps, Runs}
 use Rattle.ingest_run.specs.Causes.{HasFeedCauses}
-use Rattle.ingest_run.proofs.PassLemmas.{Passed, Passed-none, Passed-more, Runs-clean, Runs-broken, Runs-full, Runs-sink, Runs-head}
+use Rattle.ingest_run.specs.Steps.{StopsBy, EndsFeed, HasEndCause}
+use Rattle.ingest_run.proofs.EndLemmas.{cause-fault}
+use Rattle.ingest_run.proofs.PassLemmas.{Passed, Passed-none, Passed-more}
+use Rattle.ingest_run.proofs.RunLemmas.{IsStop, Runs-head, Runs-none, Runs-file_head, Runs-unit, Runs-no_tail, Runs-tail, Runs-closed}
 
 -- what is told where the reader stands
-abbrev pub PassedOn : Reading → Option Told → Option Told → Option (List ℕ) → Option (List ℕ) → Type 0
-PassedOn reading told now old w = IfTold told now (λ before. Passed reading before now old w)
+abbrev pub PassedOn : (Fields → List (List ℕ) → List Place) → (Fields → List (List ℕ) → List ℕ) → Reading → List Place → Option Told → Option Told → Option (List ℕ) → Option (List ℕ) → Type 0
+PassedOn places_of growing reading places told now old w = IfTold told now (λ before. Passed places_of growing reading places before now old w)
 
 -- what is told where the run ends
-abbrev pub RunOn : Option Told → Option Told → Option (List ℕ) → Option (List ℕ) → Status → Type 0
-RunOn told now old w status = IfTold told now (λ before. Runs Wraps before now old w status)
-
--- room for a unit more, or none
-less_full : (reading : Reading) (units : List (List ℕ)) → reading.count ≡ length units → reading.count < reading.config.max_frames → (length units == reading.config.max_frames) ≡ false
-less_full reading units counted less = ne_eqb (length units) reading.config.max_frames (λ e. omega arith)
-
-is_full : (reading : Reading) (units : List (List ℕ)) → reading.count ≡ length units → reading.count ≡ reading.config.max_frames → (length units == reading.config.max_frames) ≡ true
-is_full reading units counted all = eq-eqb (length units) reading.config.max_frames (omega arith)
-
-pub on_head : (told now : Option Told) (w : Option (List ℕ)) (fault : FeedFault) → IfTold told now (λ before. BreaksHead before now fault) → RunOn told now w w (feed_answer fault)
-on_head None now w fault b = b
-on_head (Some before) now w fault b = Runs-head before w now fault b
-
-pub on_start : (reading : Reading) (told now : Option Told) (w : Option (List ℕ)) → ReadsHead reading told now → PassedOn reading told now w w
-on_start reading None now w r = r.1
-on_start reading (Some before) now w r = Passed-none reading before now w r
+abbrev pub RunOn : (Fields → List (List ℕ) → List ℕ) → Option Told → Option Told → Option (List ℕ) → Option (List ℕ) → Status → Type 0
+RunOn closed told now old w status = IfTold told now (λ before. Runs (Wraps closed) before now old w status)
 
 -- what isn't told before isn't told after
 untold : (mid now : Option Told) (P : Told → Type 0) → mid ≡ None → IfTold mid now P → now ≡ None
 untold None now P e h = h
 untold (Some x) now P e h = absurd (cc)
 
-pub on_unit : (E : Type 0) (stage : Stage) (reading new : Reading) (told mid now : Option Told) (old w w' : Option (List ℕ)) (unit : List ℕ) → stage ≡ Open → PassedOn reading told mid old w → GivesUnit stage reading new mid now unit → reading.count < reading.config.max_frames
-    → Writes {E = E} w w' (Ok tt) (picture_element unit) → PassedOn new told now old w'
-on_unit E stage reading new None mid now old w w' unit open_is p gives room wrote =
-    untold mid now _ p (subst (λ (s : Stage). GivesUnit s reading new mid now unit) open_is gives).3
-on_unit E stage reading new (Some before) mid now old w w' unit open_is p gives room wrote =
-    Passed-more E reading new before mid now old w w' unit p (subst (λ (s : Stage). GivesUnit s reading new mid now unit) open_is gives) room wrote
+pub on-head : (closed : Fields → List (List ℕ) → List ℕ) (told now : Option Told) (w : Option (List ℕ)) (fault : FeedFault) → IfTold told now (λ before. BreaksHead before now fault) → RunOn closed told now w w (feed_answer fault)
+on-head closed None now w fault b = b
+on-head closed (Some before) now w fault b = Runs-head closed before w now fault b
 
-pub on_sink : (E : Type 0) (stage : Stage) (reading new : Reading) (told mid now : Option Told) (old w w' : Option (List ℕ)) (unit : List ℕ) (e : E) (faults : ℕ) → stage ≡ Open → PassedOn reading told mid old w → GivesUnit stage reading new mid now unit → reading.count < reading.config.max_frames
-    → Writes w w' (Err e) (picture_element unit) → RunOn told now old w' (answer 7 117 faults)
-on_sink E stage reading new None mid now old w w' unit e faults open_is p gives room wrote =
-    untold mid now _ p (subst (λ (s : Stage). GivesUnit s reading new mid now unit) open_is gives).3
-on_sink E stage reading new (Some before) mid now old w w' unit e faults open_is p gives room wrote =
-    Runs-sink E reading new before mid now old w w' unit e faults p (subst (λ (s : Stage). GivesUnit s reading new mid now unit) open_is gives) room wrote
+pub on-none : (closed : Fields → List (List ℕ) → List ℕ) (reading : Reading) (told now : Option Told) (w : Option (List ℕ)) (status : Status) → ReadsHead reading told now → IsStop status → RunOn closed told now w w status
+on-none closed reading None now w status r stop = r.1
+on-none closed reading (Some before) now w status r stop = Runs-none closed reading before now w status r stop
 
-pub on_end : (stage : Stage) (reading new : Reading) (told mid now : Option Told) (old w : Option (List ℕ)) → stage ≡ Open → PassedOn reading told mid old w → EndsClean stage reading new mid now → RunOn told now old w (answer 0 0 0)
-on_end stage reading new None mid now old w open_is p ends =
-    untold mid now _ p (subst (λ (s : Stage). EndsClean s reading new mid now) open_is ends).1
-on_end stage reading new (Some before) mid now old w open_is p ends =
-    Runs-clean reading new before mid now old w (length p.units == reading.config.max_frames) p refl (subst (λ (s : Stage). EndsClean s reading new mid now) open_is ends)
+pub on-file_head : (E : Type 0) (head : Fields → List ℕ) (growing tail closed : Fields → List (List ℕ) → List ℕ) (cfg : Fields) (reading : Reading) (told now : Option Told) (w w' : Option (List ℕ)) (e : E) (status : Status)
+    → ((cfg : Fields) → growing cfg [] ≡ head cfg) → ((cfg : Fields) (units : List (List ℕ)) → closed cfg units ≡ growing cfg units ++ tail cfg units) → cfg ≡ reading.config
+    → ReadsHead reading told now → IsStop status → Writes w w' (Err e) (head cfg) → RunOn closed told now w w' status
+on-file_head E head growing tail closed cfg reading None now w w' e status starts closes is r stop wrote = r.1
+on-file_head E head growing tail closed cfg reading (Some before) now w w' e status starts closes is r stop wrote =
+    Runs-file_head E head growing tail closed reading before now w w' e status starts closes r stop (subst (λ (c : Fields). Writes w w' (Err e) (head c)) is wrote)
 
-pub on_item : (stage : Stage) (reading new : Reading) (told mid now : Option Told) (old w : Option (List ℕ)) (fault : FeedFault) → stage ≡ Open → PassedOn reading told mid old w → RefusesItem stage reading new mid now fault → reading.count < reading.config.max_frames → RunOn told now old w (feed_answer fault)
-on_item stage reading new None mid now old w fault open_is p refuses room =
-    untold mid now _ p (subst (λ (s : Stage). RefusesItem s reading new mid now fault) open_is refuses).2
-on_item stage reading new (Some before) mid now old w fault open_is p refuses room =
-    Runs-broken reading before mid now old w false fault p (less_full reading p.units p.counted room) (subst (λ (s : Stage). RefusesItem s reading new mid now fault) open_is refuses).2
+pub on-start : (E : Type 0) (places_of : Fields → List (List ℕ) → List Place) (growing : Fields → List (List ℕ) → List ℕ) (head : Fields → List ℕ) (cfg : Fields) (reading : Reading) (places : List Place) (told now : Option Told) (w w' : Option (List ℕ))
+    → ((cfg : Fields) → growing cfg [] ≡ head cfg) → ((cfg : Fields) → places_of cfg [] ≡ []) → cfg ≡ reading.config → places ≡ []
+    → ReadsHead reading told now → Writes {E = E} w w' (Ok tt) (head cfg) → PassedOn places_of growing reading places told now w w'
+on-start E places_of growing head cfg reading places None now w w' starts no_places is none r wrote = r.1
+on-start E places_of growing head cfg reading places (Some before) now w w' starts no_places is none r wrote =
+    Passed-none E places_of growing head reading places before now w w' starts no_places none r (subst (λ (c : Fields). Writes {E = E} w w' (Ok tt) (head c)) is wrote)
 
-pub on_marker : (stage : Stage) (reading new : Reading) (told mid now : Option Told) (old w : Option (List ℕ)) (fault : FeedFault) → stage ≡ Open → PassedOn reading told mid old w → RefusesMarker stage reading new mid now fault → RunOn told now old w (feed_answer fault)
-on_marker stage reading new None mid now old w fault open_is p refuses =
-    untold mid now _ p (subst (λ (s : Stage). RefusesMarker s reading new mid now fault) open_is refuses).2
-on_marker stage reading new (Some before) mid now old w fault open_is p refuses =
-    let full = length p.units == reading.config.max_frames in
-    Runs-broken reading before mid now old w full fault p refl
-    (for_full mid now full (subst (λ (s : Stage). RefusesMarker s reading new mid now fault) open_is refuses).2)
-  where
-    for_full : (m n : Option Told) (full : Bool) → IfTold m n (λ b. (full : Bool) → Breaks full reading.at [] b n fault) → IfTold m n (λ b. Breaks full reading.at [] b n fault)
-    for_full None n full h = h
-    for_full (Some b) n full h = h full
+-- the place of the units of a configuration, and what is written behind them
+at-config : (places_of : Fields → List (List ℕ) → List Place) (cfg config : Fields) (places : List Place) (units : List (List ℕ)) → cfg ≡ config → places ≡ places_of config units → places ≡ places_of cfg units
+at-config places_of cfg config places units is lie = lie ∙ ap (λ (c : Fields). places_of c units) (sym is)
 
-pub on_full : (stage : Stage) (reading new : Reading) (told mid now : Option Told) (old w : Option (List ℕ)) (max : ℕ) → stage ≡ Open → PassedOn reading told mid old w → GivesMarker stage reading new mid now → reading.count ≡ max → max ≡ reading.config.max_frames → RunOn told now old w (answer 10 95 max)
-on_full stage reading new None mid now old w max open_is p gives all limit =
-    untold mid now _ p (subst (λ (s : Stage). GivesMarker s reading new mid now) open_is gives).2
-on_full stage reading new (Some before) mid now old w max open_is p gives all limit =
-    Runs-full reading new before mid now old w max p (is_full reading p.units p.counted (all ∙ limit)) (sym all ∙ p.counted) (subst (λ (s : Stage). GivesMarker s reading new mid now) open_is gives)
+pub on-unit : (E : Type 0) (places_of : Fields → List (List ℕ) → List Place) (growing : Fields → List (List ℕ) → List ℕ) (lead : Fields → List (List ℕ) → ℕ → List ℕ) (cfg : Fields) (reading new : Reading) (places places' : List Place) (told mid now : Option Told) (old w w' : Option (List ℕ)) (unit : List ℕ)
+    → ((cfg : Fields) (units : List (List ℕ)) (unit : List ℕ) → growing cfg (units ++ unit ∷ []) ≡ growing cfg units ++ (lead cfg units (length unit) ++ unit)) → cfg ≡ reading.config
+    → PassedOn places_of growing reading places told mid old w → GivesUnit Open reading new mid now unit → reading.count < reading.config.max_frames
+    → ((units : List (List ℕ)) → places ≡ places_of cfg units → places' ≡ places_of cfg (units ++ unit ∷ []))
+    → ((units : List (List ℕ)) → places ≡ places_of cfg units → Writes {E = E} w w' (Ok tt) (lead cfg units (length unit) ++ unit))
+    → PassedOn places_of growing new places' told now old w'
+on-unit E places_of growing lead cfg reading new places places' None mid now old w w' unit grows is p gives room placed wrote = untold mid now _ p gives.3
+on-unit E places_of growing lead cfg reading new places places' (Some before) mid now old w w' unit grows is p gives room placed wrote =
+    let lie = at-config places_of cfg reading.config places p.units is p.lie in
+    Passed-more E places_of growing lead reading new places places' before mid now old w w' unit grows p gives room
+    (placed p.units lie ∙ ap (λ (c : Fields). places_of c (p.units ++ unit ∷ [])) is)
+    (subst (λ (c : Fields). Writes {E = E} w w' (Ok tt) (lead c p.units (length unit) ++ unit)) is (wrote p.units lie))
 
--- the causes of an answer for a feed's ending, where nothing failed
-pub causes_kept : (items : ℕ) (ending : Ending) (source source_now sink sink_now : ℕ) → source_now ≡ source → sink_now ≡ sink
-    → (ending_answer items ending).code ≢ 5 → (ending_answer items ending).code ≢ 7
-    → HasFeedCauses source source_now sink sink_now (ending_answer items ending)
-causes_kept items ending source source_now sink sink_now s k five seven = record {
-  answered = inl (items, ending, refl);
-  source = λ e. absurd (five e);
-  source_kept = λ e. s;
-  sink = λ e. absurd (seven e);
+pub on-unit_stop : (E : Type 0) (places_of : Fields → List (List ℕ) → List Place) (lead : Fields → List (List ℕ) → ℕ → List ℕ) (growing tail closed : Fields → List (List ℕ) → List ℕ) (cfg : Fields) (reading new : Reading) (places : List Place) (told mid now : Option Told) (old w w' : Option (List ℕ)) (unit : List ℕ) (e : E) (status : Status)
+    → ((cfg : Fields) (units : List (List ℕ)) (unit : List ℕ) → growing cfg (units ++ unit ∷ []) ≡ growing cfg units ++ (lead cfg units (length unit) ++ unit))
+    → ((cfg : Fields) (units : List (List ℕ)) → closed cfg units ≡ growing cfg units ++ tail cfg units) → cfg ≡ reading.config
+    → PassedOn places_of growing reading places told mid old w → GivesUnit Open reading new mid now unit → reading.count < reading.config.max_frames → IsStop status
+    → ((units : List (List ℕ)) → places ≡ places_of cfg units → Writes w w' (Err e) (lead cfg units (length unit) ++ unit)) → RunOn closed told now old w' status
+on-unit_stop E places_of lead growing tail closed cfg reading new places None mid now old w w' unit e status grows closes is p gives room stop wrote = untold mid now _ p gives.3
+on-unit_stop E places_of lead growing tail closed cfg reading new places (Some before) mid now old w w' unit e status grows closes is p gives room stop wrote =
+    Runs-unit E places_of lead growing tail closed reading new places before mid now old w w' unit e status grows closes p gives room stop
+    (subst (λ (c : Fields). Writes w w' (Err e) (lead c p.units (length unit) ++ unit)) is (wrote p.units (at-config places_of cfg reading.config places p.units is p.lie)))
+
+pub on-no_tail : (places_of : Fields → List (List ℕ) → List Place) (growing tail closed : Fields → List (List ℕ) → List ℕ) (reading : Reading) (places : List Place) (told mid now : Option Told) (old w : Option (List ℕ)) (status : Status)
+    → ((cfg : Fields) (units : List (List ℕ)) → closed cfg units ≡ growing cfg units ++ tail cfg units)
+    → PassedOn places_of growing reading places told mid old w → IfTold mid now (λ b. EndsFeed reading b now status) → IsStop status → RunOn closed told now old w status
+on-no_tail places_of growing tail closed reading places None mid now old w status closes p ends stop = untold mid now _ p ends
+on-no_tail places_of growing tail closed reading places (Some before) mid now old w status closes p ends stop =
+    Runs-no_tail places_of growing tail closed reading places before mid now old w status closes p ends stop
+
+pub on-tail : (E : Type 0) (places_of : Fields → List (List ℕ) → List Place) (growing tail closed : Fields → List (List ℕ) → List ℕ) (cfg : Fields) (reading : Reading) (places : List Place) (told mid now : Option Told) (old w w' : Option (List ℕ)) (err : E) (status stop : Status)
+    → ((cfg : Fields) (units : List (List ℕ)) → closed cfg units ≡ growing cfg units ++ tail cfg units) → cfg ≡ reading.config
+    → PassedOn places_of growing reading places told mid old w → IfTold mid now (λ b. EndsFeed reading b now status) → IsStop stop
+    → ((units : List (List ℕ)) → places ≡ places_of cfg units → Writes w w' (Err err) (tail cfg units)) → RunOn closed told now old w' stop
+on-tail E places_of growing tail closed cfg reading places None mid now old w w' err status stop closes is p ends stops wrote = untold mid now _ p ends
+on-tail E places_of growing tail closed cfg reading places (Some before) mid now old w w' err status stop closes is p ends stops wrote =
+    Runs-tail E places_of growing tail closed reading places before mid now old w w' err status stop closes p ends stops
+    (subst (λ (c : Fields). Writes w w' (Err err) (tail c p.units)) is (wrote p.units (at-config places_of cfg reading.config places p.units is p.lie)))
+
+pub on-closed : (E : Type 0) (places_of : Fields → List (List ℕ) → List Place) (growing tail closed : Fields → List (List ℕ) → List ℕ) (cfg : Fields) (reading : Reading) (places : List Place) (told mid now : Option Told) (old w w' : Option (List ℕ)) (status : Status)
+    → ((cfg : Fields) (units : List (List ℕ)) → closed cfg units ≡ growing cfg units ++ tail cfg units) → cfg ≡ reading.config
+    → PassedOn places_of growing reading places told mid old w → IfTold mid now (λ b. EndsFeed reading b now status)
+    → ((units : List (List ℕ)) → places ≡ places_of cfg units → Writes {E = E} w w' (Ok tt) (tail cfg units)) → RunOn closed told now old w' status
+on-closed E places_of growing tail closed cfg reading places None mid now old w w' status closes is p ends wrote = untold mid now _ p ends
+on-closed E places_of growing tail closed cfg reading places (Some before) mid now old w w' status closes is p ends wrote =
+    Runs-closed E places_of growing tail closed reading places before mid now old w w' status closes p ends
+    (subst (λ (c : Fields). Writes {E = E} w w' (Ok tt) (tail c p.units)) is (wrote p.units (at-config places_of cfg reading.config places p.units is p.lie)))
+
+-- writing stopped for want of memory or by the sink
+pub is-stop : (before now : ℕ) (status : Status) → StopsBy before now (Err status) → IsStop status
+is-stop before now status (inl (e, k)) = inl (ap (λ (s : Status). s.code) e)
+is-stop before now status (inr (e, k)) = inr (ap (λ (s : Status). s.code) e)
+
+-- the causes of the answer where the feed's end was read, and nothing of the sink failed
+pub causes-end : (source source_now sink sink_now : ℕ) (status : Status) → HasEndCause source source_now status → sink_now ≡ sink → HasFeedCauses source source_now sink sink_now status
+causes-end source source_now sink sink_now status c k = record {
+  answered = inl c.answered;
+  source = c.source;
+  source_kept = λ e. inl (c.source_kept e);
+  sink = λ e. absurd (c.no_sink e);
   sink_kept = λ e. k;
 }
 
--- the causes of an answer for a feed that can't be read on
-pub causes_fault : (T : Type 0) (source source_now sink sink_now : ℕ) (fault : FeedFault) → sink_now ≡ sink
-    → HasFeedCause {T = T} source source_now (Err fault) → HasFeedCauses source source_now sink sink_now (feed_answer fault)
-causes_fault T source source_now sink sink_now (SourceFault count) k c = record {
-  answered = inl (0, Broken (SourceFault count), refl);
-  source = λ e. (ap (answer 5 113) c.0, c.1);
-  source_kept = λ e. absurd (e refl);
-  sink = λ e. absurd (omega arith);
-  sink_kept = λ e. k;
-}
-causes_fault T source source_now sink sink_now Memory k c =
-    causes_kept 0 (Broken Memory) source source_now sink sink_now c k (omega arith) (omega arith)
-causes_fault T source source_now sink sink_now (FeedHead at) k c =
-    causes_kept 0 (Broken (FeedHead at)) source source_now sink sink_now c k (omega arith) (omega arith)
-causes_fault T source source_now sink sink_now (Marker at) k c =
-    causes_kept 0 (Broken (Marker at)) source source_now sink sink_now c k (omega arith) (omega arith)
-causes_fault T source source_now sink sink_now (FeedCut at) k c =
-    causes_kept 0 (Broken (FeedCut at)) source source_now sink sink_now c k (omega arith) (omega arith)
-causes_fault T source source_now sink sink_now (TooLong at) k c =
-    causes_kept 0 (Broken (TooLong at)) source source_now sink sink_now c k (omega arith) (omega arith)
-causes_fault T source source_now sink sink_now (UnitLong at) k c =
-    causes_kept 0 (Broken (UnitLong at)) source source_now sink sink_now c k (omega arith) (omega arith)
+-- the causes of the answer for a head that is refused
+pub causes-head : (T : Type 0) (source source_now sink : ℕ) (fault : FeedFault) → HasFeedCause {T = T} source source_now (Err fault) → HasFeedCauses source source_now sink sink (feed_answer fault)
+causes-head T source source_now sink fault c = causes-end source source_now sink sink (feed_answer fault) (cause-fault T source source_now fault c) refl
 
--- the causes of the answer for a sink that failed
-pub causes_sink : (source source_now sink sink_now : ℕ) → source_now ≡ source → Rose sink sink_now → HasFeedCauses source source_now sink sink_now (answer 7 117 sink_now)
-causes_sink source source_now sink sink_now s rose = record {
+-- the causes of the answer for writing that stopped, before the feed's end was read
+pub causes-stop : (source source_now sink sink_now : ℕ) (status : Status) → source_now ≡ source → StopsBy sink sink_now (Err status) → HasFeedCauses source source_now sink sink_now status
+causes-stop source source_now sink sink_now status s (inl (e, k)) =
+    let code : status.code ≡ 1 = ap (λ (s : Status). s.code) e in
+    record {
+      answered = inl (0, Broken Memory, e);
+      source = λ five. absurd (omega arith);
+      source_kept = λ five. inl s;
+      sink = λ seven. absurd (omega arith);
+      sink_kept = λ seven. k;
+    }
+causes-stop source source_now sink sink_now status s (inr (e, rose)) =
+    let code : status.code ≡ 7 = ap (λ (s : Status). s.code) e in
+    record {
+      answered = inr e;
+      source = λ five. absurd (omega arith);
+      source_kept = λ five. inl s;
+      sink = λ seven. rose;
+      sink_kept = λ seven. absurd (seven code);
+    }
+
+-- and where the sink failed in the tail, after the source had maybe failed
+pub causes-tail : (source source_now sink sink_now : ℕ) (status : Status) → HasEndCause source source_now status → Rose sink sink_now → HasFeedCauses source source_now sink sink_now (sink_answer sink_now)
+causes-tail source source_now sink sink_now status c rose = record {
   answered = inr refl;
-  source = λ e. absurd (omega arith);
-  source_kept = λ e. s;
-  sink = λ e. rose;
-  sink_kept = λ e. absurd (e refl);
+  source = λ five. absurd (omega arith);
+  source_kept = λ five. kept (cases_eq status.code 5);
+  sink = λ seven. rose;
+  sink_kept = λ seven. absurd (seven refl);
 }
-
--- a reader that hasn't refused asks its source
-pub asks : (T : Type 0) (stage : Stage) (before now : ℕ) (fault : FeedFault) → stage ≡ Open → HasReaderCause {T = T} stage before now (Err fault) → HasFeedCause {T = T} before now (Err fault)
-asks T stage before now fault open_is c = subst (λ (s : Stage). HasReaderCause {T = T} s before now (Err fault)) open_is c
-
-pub keeps : (T : Type 0) (stage : Stage) (before now : ℕ) (value : T) → stage ≡ Open → HasReaderCause {T = T} stage before now (Ok value) → now ≡ before
-keeps T stage before now value open_is c = subst (λ (s : Stage). HasReaderCause {T = T} s before now (Ok value)) open_is c
-
--- the reader behind a unit
-pub behind_unit : (stage : Stage) (reading new : Reading) (mid now : Option Told) (unit : List ℕ) → stage ≡ Open → GivesUnit stage reading new mid now unit → (new.config ≡ reading.config) × (new.count ≡ reading.count + 1) × (new.stage ≡ Open)
-behind_unit stage reading new mid now unit open_is gives =
-    let g = subst (λ (s : Stage). GivesUnit s reading new mid now unit) open_is gives in
-    (ap (λ (r : Reading). r.config) g.2, ap (λ (r : Reading). r.count) g.2, ap (λ (r : Reading). r.stage) g.2)
+  where
+    kept : (status.code ≡ 5) ⊎ (status.code ≢ 5) → (source_now ≡ source) ⊎ (((sink_answer sink_now).code ≡ 7) × Rose source source_now)
+    kept (inl five) = inr (refl, (c.source five).1)
+    kept (inr other) = inl (c.source_kept other)

@@ -11,11 +11,16 @@ use Rattle.ingest_run.specs.Statuses.{answer, ending_answer, memory_answer, word
 abbrev pub IsFeedAnswer : Status → Type 0
 IsFeedAnswer status = (items : ℕ) × (ending : Ending) × (status ≡ ending_answer items ending)
 
+-- A count of the source's faults stays, unless the answer says that it rose: by 5, or by 7 where the sink failed in the
+-- tail that is written behind a fault of the source.
+abbrev pub SourceStays : ℕ → ℕ → Status → Type 0
+SourceStays before now status = status.code ≢ 5 → (now ≡ before) ⊎ ((status.code ≡ 7) × Rose before now)
+
 -- the answer of a command that reads a feed, and the source's count and the sink's count show the cause
 pub record HasFeedCauses (source_before source_now sink_before sink_now : ℕ) (status : Status) : Type 0 where
   pub answered : IsFeedAnswer status ⊎ (status ≡ sink_answer sink_now)
   pub source : status.code ≡ 5 → (status ≡ answer 5 113 source_now) × Rose source_before source_now
-  pub source_kept : status.code ≢ 5 → source_now ≡ source_before
+  pub source_kept : SourceStays source_before source_now status
   pub sink : status.code ≡ 7 → Rose sink_before sink_now
   pub sink_kept : status.code ≢ 7 → sink_now ≡ sink_before
 
@@ -25,6 +30,6 @@ pub record HasCauses (words : List Text) (source_before source_now sink_before s
   pub faulty : status.code ≡ 2 → command_of words ≡ None
   pub refused : command_of words ≡ None → (status ≡ words_answer) ⊎ (status ≡ memory_answer)
   pub source : status.code ≡ 5 → (status ≡ answer 5 113 source_now) × Rose source_before source_now
-  pub source_kept : status.code ≢ 5 → source_now ≡ source_before
+  pub source_kept : SourceStays source_before source_now status
   pub sink : status.code ≡ 7 → Rose sink_before sink_now
   pub sink_kept : status.code ≢ 7 → sink_now ≡ sink_before

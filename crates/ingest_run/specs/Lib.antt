@@ -1,4 +1,5 @@
 pub mod Causes
 pub mod Runs
 pub mod Statuses
+pub mod Steps
 pub mod Words

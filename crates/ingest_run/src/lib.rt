@@ -2,15 +2,16 @@
 //!
 //! The program makes one call, `plain`, and its clauses are what a user may rely on: where the source tells its bytes,
 //! a run is what `Runs` says of `Says` (`specs/Runs.antt`): `Says` has the bytes that a command writes and its answer for
-//! the words and the feed's bytes, and `Runs` what of it holds where memory is wanted or a device fails. `HasCauses`
-//! (`specs/Causes.antt`) has the cause of each answer, by the words and the counts of faults.
-//! Terms: a run is one call; an answer is its `Status`.
-//! Not promised: anything of the bytes where the source doesn't tell them, and how long a call takes.
+//! the words and the feed's bytes, by the closed files of a layout, and `Runs` what of it holds where memory is wanted or
+//! a device fails. `HasCauses` (`specs/Causes.antt`) has the cause of each answer, by the words and the counts of faults.
+//! Terms: a run is one call; an answer is its `Status`; a layout is a type that implements `TakeLayout` of take_core.
+//! Not promised: anything of the bytes where the source doesn't tell them, what the layout's parts say, and how long a
+//! call takes.
 #![tactic(auto)]
 
 mod commands;
-mod element;
 mod status;
+mod take_file;
 #[cfg(test)]
 mod tests;
 mod words;

@@ -1,9 +1,9 @@
 //! The answer that each end of a run gives.
 
 ghost use Rattle.std.specs.Prelude.{◌≡◌};
-ghost use Rattle.ingest_run.specs.Statuses.{answer, feed_answer};
+ghost use Rattle.ingest_run.specs.Statuses.{answer, feed_answer, sink_answer};
 
-use raw_feed::FeedFault;
+use raw_feed::{FeedFault, Sink};
 use rec_bytes::Status;
 
 /// The answer where memory was wanted (docs/FORMATS.md, "Statuses").
@@ -32,6 +32,13 @@ pub fn refusal(code: u8, number: u16, at: u64) -> Status
         at,
         other: 0,
     }
+}
+
+/// The answer where the sink has failed.
+pub(crate) fn sink_status<W: Sink>(out: &W) -> Status
+    ensures { result ≡ sink_answer (W.fault_count out.now) }
+{
+    refusal(7, 117, out.faults())
 }
 
 /// The answer where a feed can't be read on.

@@ -1,6 +1,7 @@
 ghost use Rattle.std.specs.Prelude.{◌≡◌, Some};
 
 use crate::plain;
+use mxf_take_file::PictureLayout;
 use raw_feed::{Feed, MemorySink, MemorySource};
 use rec_bytes::Status;
 use std::alloc::Global;
@@ -31,24 +32,33 @@ const ELEMENT_HEAD: [u8; 24] = [
     0x87, 0x00, 0x00, 0x00, 0x00, 0x00, 0x00, 0x32,
 ];
 
-/// The feed of three of the smallest frames, 246 bytes.
-fn three_units(alloc: Global) -> Result<Vec<u8>, Fail> {
+// docs/FORMATS.md, "Partition packs" and "The random index pack": the keys.
+const HEADER_KEY: [u8; 16] = *b"\x06\x0e\x2b\x34\x02\x05\x01\x01\x0d\x01\x02\x01\x01\x02\x01\x00";
+
+const BODY_KEY: [u8; 16] = *b"\x06\x0e\x2b\x34\x02\x05\x01\x01\x0d\x01\x02\x01\x01\x03\x01\x00";
+
+const FOOTER_KEY: [u8; 16] = *b"\x06\x0e\x2b\x34\x02\x05\x01\x01\x0d\x01\x02\x01\x01\x04\x04\x00";
+
+const INDEX_KEY: [u8; 16] = *b"\x06\x0e\x2b\x34\x02\x05\x01\x01\x0d\x01\x02\x01\x01\x11\x01\x00";
+
+/// What a run answers (code, number, place), and what it writes.
+type Run = ((u8, u16, u64), Vec<u8>);
+
+/// The feed of so many of the smallest frames, 72 bytes and 58 for each.
+fn feed_of(alloc: Global, units: usize) -> Result<Vec<u8>, Fail> {
     let mut bytes = HEAD.to_vec(alloc)?;
-    for _ in 0..3 {
+    for _ in 0..units {
         bytes.extend_from_slice(b"UNIT\x00\x00\x00\x32")?;
         bytes.extend_from_slice(&FRAME)?;
     }
     Ok(bytes)
 }
 
-/// Their picture elements, 222 bytes.
-fn three_elements(alloc: Global) -> Result<Vec<u8>, Fail> {
-    let mut bytes = Vec::new(alloc);
-    for _ in 0..3 {
-        bytes.extend_from_slice(&ELEMENT_HEAD)?;
-        bytes.extend_from_slice(&FRAME)?;
+/// Puts bytes at a place.
+fn put(bytes: &mut Vec<u8>, at: usize, piece: &[u8]) {
+    for (place, byte) in bytes.iter_mut().skip(at).zip(piece) {
+        *place = *byte;
     }
-    Ok(bytes)
 }
 
 fn words_of(alloc: Global, texts: &[&str]) -> Result<Vec<String>, Fail> {
@@ -59,15 +69,15 @@ fn words_of(alloc: Global, texts: &[&str]) -> Result<Vec<String>, Fail> {
     Ok(words)
 }
 
-/// What wrapping a feed answers (code, number and place) and writes, where calls of the source and of the sink, numbered
-/// from 0, fail. Words that are no command come first: they take no call of either.
+/// Runs `wrap` where calls of the source and of the sink, numbered from 0, fail. Words that are no command come first:
+/// they take no call of either.
 fn wrapped<N: Feed, R: AllocGlobal + Abort>(
     rt: &R,
     bytes: &[u8],
     source_fails: &[u64],
     sink_fails: &[u64],
     room: usize,
-) -> Result<((u8, u16, u64), Vec<u8>), Fail>
+) -> Result<Run, Fail>
     requires { N.bytes ≡ Some bytes.now }
 {
     let mut feed = MemorySource::<N>::new(bytes, source_fails);
@@ -75,7 +85,7 @@ fn wrapped<N: Feed, R: AllocGlobal + Abort>(
     let faulty: [&[&str]; 4] = [&[], &["unwrap"], &["wrap", "x"], &["wrap", "--help"]];
     for texts in faulty {
         let words = words_of(rt.alloc(), texts)?;
-        let status = plain::<R, N, _, _>(rt, &words, &mut feed, &mut out);
+        let status = plain::<R, N, PictureLayout, _, _>(rt, &words, &mut feed, &mut out);
         let want = Status {
             code: 2,
             number: 0,
@@ -86,73 +96,192 @@ fn wrapped<N: Feed, R: AllocGlobal + Abort>(
         assert_eq!(rt; out.bytes().len(), 0, "{texts:?}");
     }
     let words = words_of(rt.alloc(), &["wrap"])?;
-    let status = plain::<R, N, _, _>(rt, &words, &mut feed, &mut out);
+    let status = plain::<R, N, PictureLayout, _, _>(rt, &words, &mut feed, &mut out);
     assert_eq!(rt; status.other, 0);
     let answer = (status.code, status.number, status.at);
     Ok((answer, out.bytes().to_vec(rt.alloc())?))
 }
 
 #[test]
-fn a_feed_is_wrapped_up_to_its_end_or_its_first_break(rt: HostRuntime) -> Result<(), Fail> {
-    // so many bytes of the three units, with others at a place; how many bytes of their elements come, and the answer
-    let cases: [(&str, usize, usize, &[u8], usize, (u8, u16, u64)); 18] = [
-        ("three units", 246, 0, &[], 222, (0, 0, 0)),
-        ("cut in the third", 200, 0, &[], 148, (3, 112, 200)),
-        ("the head alone", 72, 0, &[], 0, (0, 0, 0)),
-        ("empty", 0, 0, &[], 0, (3, 112, 0)),
-        ("cut head, wrong magic", 71, 0, &[0], 0, (3, 112, 71)),
-        ("wrong magic", 246, 0, &[0], 0, (3, 110, 0)),
-        ("log2 4", 246, 18, &[4], 0, (3, 110, 18)),
-        ("other marker", 246, 133, b"X", 74, (3, 111, 130)),
-        ("cut marker", 133, 130, b"X", 74, (3, 112, 133)),
-        ("above 2^28", 246, 134, &[16, 0, 0, 1], 74, (3, 116, 134)),
-        ("2^28", 246, 134, &[16, 0, 0, 0], 74, (3, 112, 246)),
-        ("one of one", 130, 31, &[1], 74, (0, 0, 0)),
-        ("two of one", 188, 31, &[1], 74, (10, 95, 1)),
-        ("marker behind one of one", 134, 31, &[1], 74, (10, 95, 1)),
-        ("two bytes behind one", 132, 31, &[1], 74, (3, 112, 132)),
-        ("three of two", 246, 31, &[2], 148, (10, 95, 2)),
-        ("three of three", 246, 31, &[3], 222, (0, 0, 0)),
-        ("last unit cut by one byte", 245, 0, &[], 148, (3, 112, 245)),
+fn a_file_is_closed_at_the_feeds_end_or_its_first_break(rt: HostRuntime) -> Result<(), Fail> {
+    // so many bytes of three units, with others at a place; the file's units and length, worked out by hand; the answer
+    let cases: [(&str, usize, usize, &[u8], usize, usize, (u8, u16, u64)); 19] = [
+        ("three units", 246, 0, &[], 3, 7157, (0, 0, 0)),
+        ("cut in the third", 200, 0, &[], 2, 7072, (3, 112, 200)),
+        ("the head alone", 72, 0, &[], 0, 6626, (0, 0, 0)),
+        ("empty", 0, 0, &[], 0, 0, (3, 112, 0)),
+        ("cut head, wrong magic", 71, 0, &[0], 0, 0, (3, 112, 71)),
+        ("wrong magic", 246, 0, &[0], 0, 0, (3, 110, 0)),
+        ("log2 4", 246, 18, &[4], 0, 0, (3, 110, 18)),
+        ("other marker", 246, 133, b"X", 1, 6987, (3, 111, 130)),
+        ("cut marker", 133, 130, b"X", 1, 6987, (3, 112, 133)),
+        (
+            "above 2^28",
+            246,
+            134,
+            &[16, 0, 0, 1],
+            1,
+            6987,
+            (3, 116, 134),
+        ),
+        ("2^28", 246, 134, &[16, 0, 0, 0], 1, 6987, (3, 112, 246)),
+        ("one of one", 130, 31, &[1], 1, 6987, (0, 0, 0)),
+        ("two of one", 188, 31, &[1], 1, 6987, (10, 95, 1)),
+        (
+            "marker behind one of one",
+            134,
+            31,
+            &[1],
+            1,
+            6987,
+            (10, 95, 1),
+        ),
+        (
+            "two bytes behind one",
+            132,
+            31,
+            &[1],
+            1,
+            6987,
+            (3, 112, 132),
+        ),
+        ("three of two", 246, 31, &[2], 2, 7072, (10, 95, 2)),
+        ("three of three", 246, 31, &[3], 3, 7157, (0, 0, 0)),
+        (
+            "last unit cut by one byte",
+            245,
+            0,
+            &[],
+            2,
+            7072,
+            (3, 112, 245),
+        ),
+        (
+            "two frames a partition",
+            246,
+            26,
+            &[0, 2],
+            3,
+            7433,
+            (0, 0, 0),
+        ),
     ];
-    let elements = three_elements(rt.alloc())?;
-    for (name, len, at, put, count, answer) in cases {
-        let mut bytes = three_units(rt.alloc())?;
-        for (place, byte) in bytes.iter_mut().skip(at).zip(put) {
-            *place = *byte;
-        }
+    for (name, len, at, piece, units, file_len, answer) in cases {
+        let mut bytes = feed_of(rt.alloc(), 3)?;
+        put(&mut bytes, at, piece);
         bytes.truncate(len);
-        let (got, written) = wrapped::<Brand, HostRuntime>(&rt, &bytes, &[], &[], 1000)?;
+        let (got, written) = wrapped::<Brand, HostRuntime>(&rt, &bytes, &[], &[], 10_000)?;
         assert_eq!(rt; got, answer, "{name}");
-        assert_eq!(rt; Some(written.as_slice()), elements.get(..count), "{name}");
+        assert_eq!(rt; written.len(), file_len, "{name}");
+        if file_len == 0 {
+            continue;
+        }
+        // the file of these units, whatever follows them
+        let mut whole = feed_of(rt.alloc(), units)?;
+        if at < HEAD.len() {
+            put(&mut whole, at, piece);
+        }
+        let (_, file) = wrapped::<Brand, HostRuntime>(&rt, &whole, &[], &[], 10_000)?;
+        assert_eq!(rt; written, file, "{name}");
     }
     Ok(())
 }
 
 #[test]
-fn a_device_that_fails_costs_nothing_that_came_before(rt: HostRuntime) -> Result<(), Fail> {
-    // the head is read by one call and an item by three; an element is written by two
-    let cases: [(&[u64], &[u64], usize, usize, (u8, u16, u64)); 16] = [
-        (&[0], &[], 222, 0, (5, 113, 1)),
-        (&[1], &[], 222, 0, (5, 113, 1)),
-        (&[3, 4], &[], 222, 0, (5, 113, 1)),
-        (&[4], &[], 222, 74, (5, 113, 1)),
-        (&[6], &[], 222, 74, (5, 113, 1)),
-        (&[9], &[], 222, 148, (5, 113, 1)),
-        (&[10], &[], 222, 222, (5, 113, 1)),
-        (&[11], &[6], 222, 222, (0, 0, 0)),
-        (&[], &[0], 222, 0, (7, 117, 1)),
-        (&[], &[1], 222, 24, (7, 117, 1)),
-        (&[], &[2, 3], 222, 74, (7, 117, 1)),
-        (&[], &[5], 222, 172, (7, 117, 1)),
-        (&[], &[], 0, 0, (7, 117, 1)),
-        (&[], &[], 100, 98, (7, 117, 1)),
-        (&[], &[], 221, 172, (7, 117, 1)),
-        (&[4], &[1], 222, 24, (7, 117, 1)),
+fn the_parts_stand_where_the_format_says(rt: HostRuntime) -> Result<(), Fail> {
+    // frames a partition; a place and the bytes that stand there, worked out by hand
+    let cases: [(u8, &str, usize, &[u8]); 17] = [
+        (250, "header pack", 0, &HEADER_KEY),
+        (250, "body pack", 3289, &BODY_KEY),
+        (250, "first element", 3413, &ELEMENT_HEAD),
+        (250, "first frame", 3437, &FRAME),
+        (250, "second element", 3487, &ELEMENT_HEAD),
+        (250, "third element", 3561, &ELEMENT_HEAD),
+        (250, "third frame", 3585, &FRAME),
+        (250, "footer pack", 3635, &FOOTER_KEY),
+        (250, "random index pack", 7097, &INDEX_KEY),
+        (250, "its length", 7153, &[0, 0, 0, 0x3c]),
+        (2, "second body pack", 3561, &BODY_KEY),
+        (
+            2,
+            "its place, and the one before",
+            3589,
+            &[0, 0, 0, 0, 0, 0, 0x0d, 0xe9, 0, 0, 0, 0, 0, 0, 0x0c, 0xd9],
+        ),
+        (
+            2,
+            "its index bytes, 162 of stream 2",
+            3621,
+            &[0, 0, 0, 0, 0, 0, 0, 162, 0, 0, 0, 2],
+        ),
+        (
+            2,
+            "its body offset, 148 of stream 1",
+            3633,
+            &[0, 0, 0, 0, 0, 0, 0, 148, 0, 0, 0, 1],
+        ),
+        (2, "third element", 3847, &ELEMENT_HEAD),
+        (2, "third frame", 3871, &FRAME),
+        (2, "footer pack", 3921, &FOOTER_KEY),
     ];
-    let bytes = three_units(rt.alloc())?;
-    let elements = three_elements(rt.alloc())?;
-    for (source_fails, sink_fails, room, count, answer) in cases {
+    for (part, name, at, want) in cases {
+        let mut bytes = feed_of(rt.alloc(), 3)?;
+        put(&mut bytes, 27, &[part]);
+        let (got, written) = wrapped::<Brand, HostRuntime>(&rt, &bytes, &[], &[], 10_000)?;
+        assert_eq!(rt; got, (0, 0, 0), "{name}");
+        assert_eq!(rt;
+            written.get(at..at + want.len()),
+            Some(want),
+            "{part}, {name}"
+        );
+    }
+    Ok(())
+}
+
+#[test]
+fn a_long_frame_is_written_whole(rt: HostRuntime) -> Result<(), Fail> {
+    // 2^24 + 1 bytes: more than three bytes of length hold
+    let mut bytes = HEAD.to_vec(rt.alloc())?;
+    bytes.extend_from_slice(b"UNIT\x01\x00\x00\x01")?;
+    bytes.resize(80 + 16_777_217, 7)?;
+    let (got, written) = wrapped::<Brand, HostRuntime>(&rt, &bytes, &[], &[], 16_784_154)?;
+    assert_eq!(rt; got, (0, 0, 0));
+    assert_eq!(rt; written.len(), 16_784_154);
+    assert_eq!(rt;
+        written.get(3429..3437),
+        Some(&[0x87, 0, 0, 0, 1, 0, 0, 1][..])
+    );
+    assert_eq!(rt; written.get(3437..16_780_654), bytes.get(80..));
+    Ok(())
+}
+
+#[test]
+fn a_device_that_fails_costs_nothing_that_came_before(rt: HostRuntime) -> Result<(), Fail> {
+    // The head is read by one call and an item by three. The file's head is written by one call, a unit by two, the tail
+    // by one. A file of so many units comes, or where the sink failed a front of it.
+    let cases: [(&[u64], &[u64], usize, usize, usize, (u8, u16, u64)); 19] = [
+        (&[0], &[], 10_000, 0, 0, (5, 113, 1)),
+        (&[1], &[], 10_000, 0, 6626, (5, 113, 1)),
+        (&[3, 4], &[], 10_000, 0, 6626, (5, 113, 1)),
+        (&[4], &[], 10_000, 1, 6987, (5, 113, 1)),
+        (&[6], &[], 10_000, 1, 6987, (5, 113, 1)),
+        (&[9], &[], 10_000, 2, 7072, (5, 113, 1)),
+        (&[10], &[], 10_000, 3, 7157, (5, 113, 1)),
+        (&[11], &[8], 10_000, 3, 7157, (0, 0, 0)),
+        (&[], &[0], 10_000, 3, 0, (7, 117, 1)),
+        (&[], &[1], 10_000, 3, 3289, (7, 117, 1)),
+        (&[], &[2, 3], 10_000, 3, 3437, (7, 117, 1)),
+        (&[], &[3], 10_000, 3, 3487, (7, 117, 1)),
+        (&[], &[6], 10_000, 3, 3585, (7, 117, 1)),
+        (&[], &[7], 10_000, 3, 3635, (7, 117, 1)),
+        (&[], &[], 0, 3, 0, (7, 117, 1)),
+        (&[], &[], 3486, 3, 3437, (7, 117, 1)),
+        (&[], &[], 7156, 3, 3635, (7, 117, 1)),
+        (&[4], &[1], 10_000, 1, 3289, (7, 117, 1)),
+        (&[4], &[3], 10_000, 1, 3487, (7, 117, 1)),
+    ];
+    let bytes = feed_of(rt.alloc(), 3)?;
+    for (source_fails, sink_fails, room, units, len, answer) in cases {
         let (got, written) = wrapped::<Brand, HostRuntime>(
             &rt,
             &bytes,
@@ -160,16 +289,12 @@ fn a_device_that_fails_costs_nothing_that_came_before(rt: HostRuntime) -> Result
             sink_fails,
             room,
         )?;
-        assert_eq!(rt;
-            got,
-            answer,
-            "{source_fails:?}, {sink_fails:?}, room {room}"
-        );
-        assert_eq!(rt;
-            Some(written.as_slice()),
-            elements.get(..count),
-            "{source_fails:?}, {sink_fails:?}, room {room}"
-        );
+        let name = format!(in rt.alloc(); "{source_fails:?}, {sink_fails:?}, room {room}")?;
+        assert_eq!(rt; got, answer, "{name}");
+        assert_eq!(rt; written.len(), len, "{name}");
+        let whole = feed_of(rt.alloc(), units)?;
+        let (_, file) = wrapped::<Brand, HostRuntime>(&rt, &whole, &[], &[], 10_000)?;
+        assert_eq!(rt; Some(written.as_slice()), file.get(..len), "{name}");
     }
     Ok(())
 }

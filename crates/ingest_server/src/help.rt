@@ -2,23 +2,24 @@
 
 /// `--help`, `-h` and `help`.
 pub const SERVER: &str = "\
-ingest_server - takes in finished ProRes frames and wraps them for MXF
+ingest_server - takes in finished ProRes frames and writes an MXF file of them
 
 Usage: ingest_server COMMAND
        ingest_server --help | --version
 
 Commands:
-  wrap    read a feed of finished frames on standard input and write each
-          frame as a picture element, one KLV item, to standard output
+  wrap    read a feed of finished frames on standard input and write one
+          closed MXF OP1a file of them to standard output
 
 Help:
   -h, --help, help    print this text
   COMMAND --help      print what the command reads and writes
   --version           print the version
 
-A command reads its input once, from the first byte to the last, and keeps
-one frame in memory. Where the input breaks off or breaks its form, the
-whole frames before the break have been written.
+A command reads its input once, from the first byte to the last. In memory
+it keeps one frame, 24 bytes for each frame, and a buffer for what stands
+between frames. Where the input breaks off or breaks its form, the file of
+the whole frames before the break has been written.
 
 Exit status, with the number that stands behind `refusal` in the fault line:
   0    everything was read, and everything was written
@@ -43,9 +44,9 @@ for 5 and 7 the number of faults.
 
 /// `wrap --help` and `wrap -h`.
 pub const WRAP: &str = "\
-ingest_server wrap - write finished ProRes frames as KLV items
+ingest_server wrap - write finished ProRes frames as one MXF OP1a file
 
-Usage: ingest_server wrap < FEED > ELEMENTS
+Usage: ingest_server wrap < FEED > FILE.mxf
 
 Reads from standard input a feed of units:
   8 bytes    PRFEEDU1
@@ -53,23 +54,26 @@ Reads from standard input a feed of units:
   then, for each frame, the four bytes UNIT, its length in four bytes, the
   highest first (at most 2^28), and the frame itself
 
-Writes to standard output, for each frame in its order:
-  16 bytes   the key of a picture element,
-             06 0E 2B 34 01 02 01 01 0D 01 03 01 15 01 17 01
-  8 bytes    87, and the frame's length in seven bytes, the highest first
-  then the frame, unchanged
-So a frame of 50 bytes becomes an element of 74.
+Writes to standard output:
+  the header partition
+  body partitions, each of as many frames as the configuration says: an index
+  of the frames of the partition before, and each frame, unchanged, as a
+  picture element
+  the footer partition with the durations and the index of the last frames
+  the random index pack
+No byte is written twice: a frame can be read as soon as it was written.
 
 Options: none. A frame is passed on unread.
 
 Where the feed breaks off or breaks its form (status 3), where it has more
 frames than its configuration allows (status 10), or where reading fails
-(status 5), the elements of the whole frames before that place have been
-written. `ingest_server --help` lists the statuses.
+(status 5), the file of the whole frames before that place is closed and has
+been written. Where the first 72 bytes are cut or wrong, nothing is written.
+`ingest_server --help` lists the statuses.
 ";
 
 /// Behind the fault line, where the words are no command.
-pub const USAGE: &str = "usage: ingest_server wrap < FEED > ELEMENTS, or ingest_server --help";
+pub const USAGE: &str = "usage: ingest_server wrap < FEED > FILE.mxf, or ingest_server --help";
 
 /// `--version`.
 pub const VERSION: &str = "ingest_server 1\n";

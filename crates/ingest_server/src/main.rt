@@ -8,6 +8,7 @@
 mod help;
 
 use ingest_run::{FAULTY_WORDS, MEMORY, plain, refusal};
+use mxf_take_file::PictureLayout;
 use raw_feed::{Sink, StreamSink, StreamSource, put_all};
 use rec_bytes::Status;
 use std::env;
@@ -43,7 +44,7 @@ fn answer(rt: &HostRuntime, words: &[String]) -> Status {
         },
         None => {
             let mut feed = StreamSource::<Brand, _>::new(rt.stdin());
-            plain::<HostRuntime, Brand, _, _>(rt, words, &mut feed, &mut out)
+            plain::<HostRuntime, Brand, PictureLayout, _, _>(rt, words, &mut feed, &mut out)
         }
     }
 }

@@ -1,6 +1,5 @@
--- How a picture element is written in two pieces.
-use Rattle.std.proofs.Common.{◌≡◌, ℕ, ◌≤◌, List, ◌++◌, length, take, Option, Some, None, Result, Ok, Err, sym, ap, subst, ◌∙◌, append_assoc}
-use Rattle.std.proofs.lemmas.List.{take_all}
+-- How a piece is written in two parts.
+use Rattle.std.proofs.Common.{◌≡◌, ℕ, List, ◌++◌, Option, Some, None, Result, Ok, Err, sym, ap, subst, ◌∙◌, append_assoc}
 use Rattle.raw_feed.specs.Written.{Writes}
 
 -- the sink failed inside the first of two pieces
@@ -20,7 +19,3 @@ Writes-second (Some old) mid now r (Err e) first second whole done is w v =
     let before : mid ≡ Some (old ++ first) = rw done at w in
     let after : Writes (Some (old ++ first)) now (Err e) second = rw before at v in
     (first ++ after.0, after.1, is ∙ (ap (λ (xs : List ℕ). first ++ xs) after.2 ∙ sym (append_assoc first after.0 after.1)), after.3 ∙ ap Some (append_assoc old first after.0))
-
--- a head that fills its buffer is the buffer
-pub head_is : (n : ℕ) (out head : List ℕ) → length out ≤ n → take n out ≡ head → out ≡ head
-head_is n out head long is = sym (take_all n out long) ∙ is
