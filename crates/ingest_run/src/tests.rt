@@ -32,7 +32,7 @@ const ELEMENT_HEAD: [u8; 24] = [
     0x87, 0x00, 0x00, 0x00, 0x00, 0x00, 0x00, 0x32,
 ];
 
-// docs/FORMATS.md, "Partition packs" and "The random index pack": the keys.
+// docs/FORMATS.md, "Partition packs" and "Random index pack": the keys.
 const HEADER_KEY: [u8; 16] = *b"\x06\x0e\x2b\x34\x02\x05\x01\x01\x0d\x01\x02\x01\x01\x02\x01\x00";
 
 const BODY_KEY: [u8; 16] = *b"\x06\x0e\x2b\x34\x02\x05\x01\x01\x0d\x01\x02\x01\x01\x03\x01\x00";
@@ -105,7 +105,7 @@ fn wrapped<N: Feed, R: AllocGlobal + Abort>(
 #[test]
 fn a_file_is_closed_at_the_feeds_end_or_its_first_break(rt: HostRuntime) -> Result<(), Fail> {
     // so many bytes of three units, with others at a place; the file's units and length, worked out by hand; the answer
-    let cases: [(&str, usize, usize, &[u8], usize, usize, (u8, u16, u64)); 19] = [
+    let cases: [(&str, usize, usize, &[u8], usize, usize, (u8, u16, u64)); 20] = [
         ("three units", 246, 0, &[], 3, 7157, (0, 0, 0)),
         ("cut in the third", 200, 0, &[], 2, 7072, (3, 112, 200)),
         ("the head alone", 72, 0, &[], 0, 6626, (0, 0, 0)),
@@ -155,6 +155,15 @@ fn a_file_is_closed_at_the_feeds_end_or_its_first_break(rt: HostRuntime) -> Resu
             2,
             7072,
             (3, 112, 245),
+        ),
+        (
+            "one full partition of two",
+            188,
+            26,
+            &[0, 2],
+            2,
+            7072,
+            (0, 0, 0),
         ),
         (
             "two frames a partition",
