@@ -2,7 +2,7 @@
 use Rattle.std.proofs.Common.{◌≡◌, ℕ, zero, suc, ◌+◌, ◌<◌, ◌≤◌, List, [], ◌∷◌, ◌++◌, length, take, get_or, sym, ap, ◌∙◌, arith, append_assoc, append-nil, length-append}
 use Rattle.std.specs.List.{flat_map}
 use Rattle.rec_bytes.specs.Places.{with_bytes}
-use Rattle.rec_bytes.specs.Laws.{with_bytes-join}
+use Rattle.rec_bytes.specs.Laws.{with_bytes-more}
 
 -- a mapped front grows by the bytes of one more
 pub grows : {A : Type 0} (f : A → List ℕ) (d : A) (i : ℕ) (xs : List A) → i < length xs → flat_map f (take (i + 1) xs) ≡ flat_map f (take i xs) ++ f (get_or xs i d)
@@ -20,14 +20,6 @@ within f d i [] h = absurd (omega arith)
 within f d zero (x ∷ xs) h = simp length-append (omega arith)
 within f d (suc i) (x ∷ xs) h = let rest = within f d i xs (omega arith) in simp length-append (omega arith)
 
--- a write behind another
-pub both : (old mid new a b : List ℕ) (at next : ℕ) → at + length a ≤ length old → next ≡ at + length a → mid ≡ with_bytes old at a → new ≡ with_bytes mid next b → new ≡ with_bytes old at (a ++ b)
-both old mid new a b at next room place first second =
-    second
-    ∙ ap (λ (n : ℕ). with_bytes mid n b) place
-    ∙ ap (λ (bytes : List ℕ). with_bytes bytes (at + length a) b) first
-    ∙ with_bytes-join old at a b room
-
 -- there is room for one more of a list
 pub room_for : {A : Type 0} (f : A → List ℕ) (d : A) (i : ℕ) (xs : List A) (old mid : List ℕ) (at end : ℕ) → i < length xs → at + length (flat_map f xs) ≤ length old → end ≡ at + length (flat_map f (take i xs)) → length mid ≡ length old → end + length (f (get_or xs i d)) ≤ length mid
 room_for f d i xs old mid at end more room place same = omega (arith, within f d i xs more)
@@ -38,5 +30,5 @@ one_more f d i xs old mid new at end next more room place before beyond after =
     let all = grows f d i xs more in
     let fits = within f d i xs more in (
       omega (arith, ap (λ (bytes : List ℕ). length bytes) all, length-append (flat_map f (take i xs)) (f (get_or xs i d))),
-      both old mid new (flat_map f (take i xs)) (f (get_or xs i d)) at end (omega arith) place before after ∙ ap (λ (bytes : List ℕ). with_bytes old at bytes) (sym all),
+      with_bytes-more old at end (flat_map f (take i xs)) (f (get_or xs i d)) mid new before place (omega arith) after ∙ ap (λ (bytes : List ℕ). with_bytes old at bytes) (sym all),
     )

@@ -2,7 +2,7 @@
 use Rattle.std.proofs.Common.{◌≡◌, ℕ, ◌+◌, ◌≤◌, List, [], ◌∷◌, ◌++◌, length, refl, sym, ap, ◌∙◌, subst, arith, append-nil, length-append}
 use Rattle.std.specs.List.{flat_map}
 use Rattle.rec_bytes.specs.Places.{with_bytes}
-use Rattle.local_sets.specs.Writes.{both}
+use Rattle.rec_bytes.specs.Laws.{with_bytes-more}
 use Rattle.local_sets.specs.Laws.{length-local_set}
 use Rattle.local_sets.specs.Sets.{items_bytes}
 use Rattle.local_sets.specs.declared.set.Item.{Item}
@@ -19,7 +19,7 @@ joined old mid new at end next xs ys room first second =
     let size : length (flat_map set_bytes (xs ++ ys)) ≡ length a + length b = ap (λ (bytes : List ℕ). length bytes) all ∙ length-append a b in
     record {
       place = omega (arith, first.place, second.place, size);
-      bytes = both old mid new a b at end (omega (arith, first.place)) first.place first.bytes second.bytes ∙ ap (λ (bytes : List ℕ). with_bytes old at bytes) (sym all);
+      bytes = with_bytes-more old at end a b mid new first.bytes first.place room second.bytes ∙ ap (λ (bytes : List ℕ). with_bytes old at bytes) (sym all);
     }
 
 -- a set of items that are known

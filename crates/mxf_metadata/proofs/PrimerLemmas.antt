@@ -4,7 +4,7 @@ use Rattle.std.specs.List.{flat_map}
 use Rattle.byteorder.specs.Endian.{big_bytes}
 use Rattle.klv.specs.Items.{klv_head}
 use Rattle.rec_bytes.specs.Places.{with_bytes}
-use Rattle.local_sets.specs.Writes.{both}
+use Rattle.rec_bytes.specs.Laws.{with_bytes-more}
 use Rattle.mxf_metadata.specs.Primer.{primer, primer_value, primer_entry}
 use Rattle.mxf_metadata.specs.declared.tags.TheConstants.{TAGS}
 use Rattle.mxf_metadata.specs.declared.labels.TheConstants.{PRIMER_KEY}
@@ -12,10 +12,10 @@ use Rattle.mxf_metadata.specs.declared.labels.TheConstants.{PRIMER_KEY}
 -- four writes one behind the other, from the front on
 pub four : (old first second third fourth a b c d : List ℕ) → length a ≡ 20 → length b ≡ 4 → length c ≡ 4 → 28 + length d ≤ length old → first ≡ with_bytes old 0 a → second ≡ with_bytes first 20 b → third ≡ with_bytes second 24 c → fourth ≡ with_bytes third 28 d → fourth ≡ with_bytes old 0 (a ++ ((b ++ c) ++ d))
 four old first second third fourth a b c d la lb lc room p q r s =
-    let to_24 = both old first second a b 0 20 (omega arith) (omega arith) p q in
-    let to_28 = both old second third (a ++ b) c 0 24 (omega (arith, length-append a b)) (omega (arith, length-append a b)) to_24 r in
+    let to_24 = with_bytes-more old 0 20 a b first second p (omega arith) (omega arith) q in
+    let to_28 = with_bytes-more old 0 24 (a ++ b) c second third to_24 (omega (arith, length-append a b)) (omega arith) r in
     let size : length ((a ++ b) ++ c) ≡ 28 = omega (arith, length-append (a ++ b) c, length-append a b) in
-    let whole = both old third fourth ((a ++ b) ++ c) d 0 28 (omega arith) (omega arith) to_28 s in
+    let whole = with_bytes-more old 0 28 ((a ++ b) ++ c) d third fourth to_28 (omega arith) (omega arith) s in
     let same : ((a ++ b) ++ c) ++ d ≡ a ++ ((b ++ c) ++ d) = simp append_assoc in
     whole ∙ ap (λ (bytes : List ℕ). with_bytes old 0 bytes) same
 

@@ -3,4 +3,3 @@ pub mod SegmentLemmas
 pub mod TailLemmas
 pub mod LookLemmas
 pub mod WalkLemmas
-pub mod WriteLemmas

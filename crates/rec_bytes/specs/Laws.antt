@@ -1,5 +1,5 @@
 -- Laws of writes at a place: proved here, for proofs to cite.
-use Rattle.std.proofs.Common.{◌≡◌, ℕ, ◌+◌, ◌-◌, ◌≤◌, List, [], ◌++◌, length, take, drop, refl, sym, ap, ◌∙◌, arith, append_assoc}
+use Rattle.std.proofs.Common.{◌≡◌, ℕ, ◌+◌, ◌-◌, ◌≤◌, List, [], ◌++◌, length, take, drop, refl, sym, ap, ap₂, ◌∙◌, arith, append_assoc}
 use Rattle.std.proofs.lemmas.List.{drop-drop, drop_all, drop_at, take_at, length-drop, append-nil, length-append, length-take-le}
 use Rattle.rec_bytes.specs.Places.{with_bytes}
 use borrow.Rule.Slice.PartMut.{put_mid}
@@ -23,6 +23,18 @@ with_bytes-join old at a b h =
     ∙ drop-drop (length b) (at + length a) old
     ∙ ap (λ (n : ℕ). drop n old) (omega (arith, length-append a b)) in
     rw (before, behind, append_assoc (take at old) a b) refl
+
+-- the same of buffers that are known: a write behind another is one write of both
+pub with_bytes-more : (old : List ℕ) (at next : ℕ) (a b mid new : List ℕ) → mid ≡ with_bytes old at a → next ≡ at + length a → next ≤ length old → new ≡ with_bytes mid next b → new ≡ with_bytes old at (a ++ b)
+with_bytes-more old at next a b mid new first behind room second =
+    second
+    ∙ ap₂ (λ (xs : List ℕ) (n : ℕ). with_bytes xs n b) first behind
+    ∙ with_bytes-join old at a b (omega (arith, behind, room))
+
+-- and three writes one behind the other are one write of all
+pub with_bytes-three : (old : List ℕ) (at next last : ℕ) (a b c x y z : List ℕ) → next ≡ at + length a → last ≡ at + length (a ++ b) → next ≤ length old → last ≤ length old → x ≡ with_bytes old at a → y ≡ with_bytes x next b → z ≡ with_bytes y last c → z ≡ with_bytes old at ((a ++ b) ++ c)
+with_bytes-three old at next last a b c x y z to_b to_c room_b room_c first second third =
+    with_bytes-more old at last (a ++ b) c y z (with_bytes-more old at next a b x y first to_b room_b second) to_c room_c third
 
 -- a write of a whole list
 pub with_bytes-whole : (old bytes : List ℕ) → length bytes ≡ length old → with_bytes old 0 bytes ≡ bytes

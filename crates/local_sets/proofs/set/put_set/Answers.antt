@@ -1,9 +1,9 @@
 use Rattle.std.proofs.Common.{◌≡◌, ℕ, List, length, arith, ap, ◌∙◌}
 use Rattle.rec_bytes.specs.Places.{with_bytes}
+use Rattle.rec_bytes.specs.Laws.{with_bytes-more}
 use Rattle.klv.specs.Items.{klv_head}
 use Rattle.local_sets.specs.Sets.{items_bytes, local_set}
 use Rattle.local_sets.specs.Laws.{length-set_head}
-use Rattle.local_sets.specs.Writes.{both}
 use Rattle.local_sets.proofs.set.put_set.Goals as goal
 
 pub returns-clause-written : goal.returns-clause-written
@@ -15,4 +15,4 @@ returns-clause-written c =
     let room = c.requires.room in
     let long : length head ≡ 20 = omega (arith, length-set_head c.args.key.now (length value) c.told-key) in
     let first = c.put_set_head-start.ensures.written ∙ ap (λ (n : ℕ). with_bytes old c.args.at (klv_head c.args.key.now 3 n)) c.items_len.ensures in
-    both old c.put_set_head-start.new.out c.put_items.new.out head value c.args.at c.put_set_head-start.result (omega arith) (c.put_set_head-start.ensures.end ∙ omega arith) first c.put_items.ensures.written
+    with_bytes-more old c.args.at c.put_set_head-start.result head value c.put_set_head-start.new.out c.put_items.new.out first (c.put_set_head-start.ensures.end ∙ omega arith) (omega (arith, c.put_set_head-start.ensures.end)) c.put_items.ensures.written

@@ -5,7 +5,7 @@ use Rattle.rec_bytes.specs.Places.{with_bytes}
 use Rattle.mxf_index.specs.Segments.{entry_bytes}
 use Rattle.mxf_index.specs.Laws.{array_is}
 use Rattle.mxf_index.specs.declared.tags.TheConstants.{INDEX_ENTRIES, ENTRY_SIZE}
-use Rattle.mxf_index.proofs.WriteLemmas.{two}
+use Rattle.rec_bytes.specs.Laws.{with_bytes-more}
 use Rattle.mxf_index.proofs.segment.put_entry_array.Goals as goal
 
 pub returns-clause-written : goal.returns-clause-written
@@ -13,5 +13,5 @@ returns-clause-written c =
     let streams : List ℕ = c.args.streams.now in
     let at : ℕ = c.args.at in
     let head : List ℕ = big_bytes 2 INDEX_ENTRIES ++ big_bytes 2 (8 + 11 * length streams) ++ big_bytes 4 (length streams) ++ big_bytes 4 ENTRY_SIZE in
-    two c.args.out.now at (at + 12) head (flat_map entry_bytes streams) c.put_array_head.new.out c.put_entries.new.out refl (omega (arith, c.requires.room)) c.put_array_head.ensures c.put_entries.ensures.written
+    with_bytes-more c.args.out.now at (at + 12) head (flat_map entry_bytes streams) c.put_array_head.new.out c.put_entries.new.out c.put_array_head.ensures refl (omega (arith, c.requires.room)) c.put_entries.ensures.written
     ∙ ap (with_bytes c.args.out.now at) (sym (array_is streams))

@@ -1,7 +1,6 @@
 use Rattle.std.proofs.Common.{◌≡◌, ℕ, List, ◌++◌, length, replicate, arith, ◌∙◌, length-append}
 use Rattle.byteorder.specs.Endian.{big_bytes}
-use Rattle.rec_bytes.specs.Laws.{with_bytes-whole}
-use Rattle.local_sets.specs.Writes.{both}
+use Rattle.rec_bytes.specs.Laws.{with_bytes-more, with_bytes-whole}
 use Rattle.mxf_metadata.proofs.ids.set_id.Goals as goal
 
 pub returns : goal.returns
@@ -10,5 +9,5 @@ returns c =
     let back : List ℕ = big_bytes 8 c.args.number in
     let zeros : List ℕ = replicate 16 0 in
     let long : length front ≡ 8 = c.show_sizes.ensures.sets in
-    both zeros c.put_bytes.new.out c.put_u64.new.out front back 0 8 (omega arith) (omega arith) c.put_bytes.ensures c.put_u64.ensures
+    with_bytes-more zeros 0 8 front back c.put_bytes.new.out c.put_u64.new.out c.put_bytes.ensures (omega arith) (omega arith) c.put_u64.ensures
     ∙ with_bytes-whole zeros (front ++ back) (omega (arith, length-append front back, long))

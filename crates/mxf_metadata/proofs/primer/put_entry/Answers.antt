@@ -1,6 +1,6 @@
 use Rattle.std.proofs.Common.{ℕ, ◌+◌, List, ◌++◌, arith, refl}
 use Rattle.byteorder.specs.Endian.{big_bytes}
-use Rattle.local_sets.specs.Writes.{both}
+use Rattle.rec_bytes.specs.Laws.{with_bytes-more}
 use Rattle.mxf_metadata.specs.declared.labels.TheConstants.{TAG_LABEL_HEAD}
 use Rattle.mxf_metadata.proofs.primer.put_entry.Goals as goal
 
@@ -9,5 +9,5 @@ returns-clause-written c =
     let tag : List ℕ = big_bytes 2 c.args.tag.now.tag in
     let old : List ℕ = c.args.out.now in
     let room = c.requires in
-    let front = both old c.put_u16.new.out c.put_bytes.new.out tag TAG_LABEL_HEAD c.args.at (c.args.at + 2) (omega arith) refl c.put_u16.ensures c.put_bytes.ensures in
-    both old c.put_bytes.new.out c.put_u16-2.new.out (tag ++ TAG_LABEL_HEAD) tag c.args.at (c.args.at + 16) (omega arith) refl front c.put_u16-2.ensures
+    let front = with_bytes-more old c.args.at (c.args.at + 2) tag TAG_LABEL_HEAD c.put_u16.new.out c.put_bytes.new.out c.put_u16.ensures refl (omega arith) c.put_bytes.ensures in
+    with_bytes-more old c.args.at (c.args.at + 16) (tag ++ TAG_LABEL_HEAD) tag c.put_bytes.new.out c.put_u16-2.new.out front refl (omega arith) c.put_u16-2.ensures

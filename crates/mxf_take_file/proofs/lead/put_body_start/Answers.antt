@@ -1,6 +1,7 @@
 use Rattle.std.proofs.Common.{◌≡◌, ℕ, ◌+◌, List, length, refl, ap, ◌∙◌, arith}
 use Rattle.rec_bytes.specs.Configuration.{Fields}
 use Rattle.rec_bytes.specs.Places.{with_bytes}
+use Rattle.rec_bytes.specs.Laws.{with_bytes-more}
 use Rattle.rec_bytes.specs.Views.{view}
 use Rattle.mxf_partitions.specs.Partitions.{partition_pack}
 use Rattle.mxf_partitions.specs.declared.partition.Partition.{Partition}
@@ -10,7 +11,6 @@ use Rattle.mxf_take_file.specs.Layout.{body_start}
 use Rattle.mxf_take_file.specs.Packs.{body_pack}
 use Rattle.mxf_take_file.specs.Segments.{segment_from, whole_first}
 use Rattle.mxf_take_file.specs.Laws.Parts.{body_pack_len, body_pack_labels, body_start_parts}
-use Rattle.mxf_take_file.proofs.WriteLemmas.{more}
 use Rattle.mxf_take_file.proofs.lead.put_body_start.Goals as goal
 
 pub put_pack-at-requires-clause-label : goal.put_pack-at-requires-clause-label
@@ -39,5 +39,5 @@ returns-clause-written c =
     let pack : mid ≡ with_bytes old 0 (partition_pack (body_pack cfg e)) = c.put_pack-at.ensures.written ∙ ap (λ (p : Partition). with_bytes old 0 (partition_pack p)) c.body_pack.ensures in
     let segment = c.put_segment_from.ensures.written ∙ ap (λ (n : ℕ). with_bytes mid at (segment_from cfg e n)) c.whole_first.ensures.first in
     let parts : 124 + length (segment_from cfg e (whole_first cfg e)) ≡ length (body_start cfg e) = body_start_parts cfg e (whole_first cfg e) refl in
-    more old 0 at (partition_pack (body_pack cfg e)) (segment_from cfg e (whole_first cfg e)) mid c.put_segment_from.new.out pack
+    with_bytes-more old 0 at (partition_pack (body_pack cfg e)) (segment_from cfg e (whole_first cfg e)) mid c.put_segment_from.new.out pack
     (omega (arith, c.put_pack-at.ensures.behind, body_pack_len cfg e)) (omega (arith, c.put_pack-at.ensures.behind, parts, c.requires.room)) segment

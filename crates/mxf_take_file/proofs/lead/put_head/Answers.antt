@@ -1,7 +1,7 @@
 use Rattle.std.proofs.Common.{◌≡◌, ℕ, List, length, refl, sym, ap, ◌∙◌, arith}
 use Rattle.rec_bytes.specs.Configuration.{Fields}
 use Rattle.rec_bytes.specs.Places.{with_bytes}
-use Rattle.rec_bytes.specs.Laws.{with_bytes-whole}
+use Rattle.rec_bytes.specs.Laws.{with_bytes-more, with_bytes-whole}
 use Rattle.rec_bytes.specs.Views.{view}
 use Rattle.mxf_partitions.specs.Partitions.{partition_pack}
 use Rattle.mxf_partitions.specs.declared.partition.Partition.{Partition}
@@ -12,7 +12,6 @@ use Rattle.std.proofs.Common.{None}
 use Rattle.mxf_take_file.specs.Layout.{head}
 use Rattle.mxf_take_file.specs.Packs.{header_pack}
 use Rattle.mxf_take_file.specs.Laws.Parts.{head_len_is}
-use Rattle.mxf_take_file.proofs.WriteLemmas.{more}
 use Rattle.mxf_take_file.proofs.lead.put_head.Goals as goal
 
 pub put_pack-at-requires-clause-room : goal.put_pack-at-requires-clause-room
@@ -29,6 +28,6 @@ returns c =
     let long : length (head cfg) ≡ 3289 = head_len_is cfg c.requires.range in
     let room : length old ≡ length (head cfg) = c.requires.room in
     let pack : c.put_pack-at.new.out ≡ with_bytes old 0 (partition_pack header_pack) = c.put_pack-at.ensures.written ∙ ap (λ (p : Partition). with_bytes old 0 (partition_pack p)) c.header_pack.ensures in
-    let both = more old 0 c.put_pack-at.result (partition_pack header_pack) (metadata cfg (ids_of cfg) None) c.put_pack-at.new.out c.put_sets.new.out
+    let both = with_bytes-more old 0 c.put_pack-at.result (partition_pack header_pack) (metadata cfg (ids_of cfg) None) c.put_pack-at.new.out c.put_sets.new.out
     pack (omega (arith, c.put_pack-at.ensures.behind, length-partition_pack header_pack refl refl)) (omega (arith, long, room, c.put_pack-at.ensures.behind)) c.put_sets.ensures.written in
     both ∙ with_bytes-whole old (head cfg) (sym room)

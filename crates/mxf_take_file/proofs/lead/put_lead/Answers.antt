@@ -1,6 +1,6 @@
 use Rattle.std.proofs.Common.{◌≡◌, ℕ, ◌+◌, List, length, sym, ◌∙◌, arith}
 use Rattle.rec_bytes.specs.Configuration.{Fields}
-use Rattle.rec_bytes.specs.Laws.{with_bytes-whole}
+use Rattle.rec_bytes.specs.Laws.{with_bytes-more, with_bytes-whole}
 use Rattle.rec_bytes.specs.Views.{view}
 use Rattle.klv.specs.Items.{klv_head}
 use Rattle.klv.specs.declared.picture.TheConstants.{PICTURE_ELEMENT_KEY}
@@ -8,7 +8,6 @@ use Rattle.mxf_take_file.specs.Extents.{Extents}
 use Rattle.mxf_take_file.specs.Kept.{extents_kept}
 use Rattle.mxf_take_file.specs.Layout.{start_of, lead_of}
 use Rattle.mxf_take_file.specs.Laws.Parts.{lead_len_by}
-use Rattle.mxf_take_file.proofs.WriteLemmas.{more}
 use Rattle.mxf_take_file.proofs.lead.put_lead.Goals as goal
 
 pub put_start-at-requires-clause-room : goal.put_start-at-requires-clause-room
@@ -26,6 +25,6 @@ returns c =
     let old : List ℕ = c.args.out.now in
     let long : length (lead_of cfg e c.args.unit_len) ≡ length (start_of cfg e) + 24 = lead_len_by cfg e c.args.unit_len in
     let room : length old ≡ length (lead_of cfg e c.args.unit_len) = c.requires.room in
-    let both = more old 0 c.put_start-at.result (start_of cfg e) (klv_head PICTURE_ELEMENT_KEY 7 c.args.unit_len) c.put_start-at.new.out c.put_element_head.new.out
+    let both = with_bytes-more old 0 c.put_start-at.result (start_of cfg e) (klv_head PICTURE_ELEMENT_KEY 7 c.args.unit_len) c.put_start-at.new.out c.put_element_head.new.out
     c.put_start-at.ensures.written (omega (arith, c.put_start-at.ensures.behind)) (omega (arith, long, room, c.put_start-at.ensures.behind)) c.put_element_head.ensures.written in
     both ∙ with_bytes-whole old (lead_of cfg e c.args.unit_len) (sym room)

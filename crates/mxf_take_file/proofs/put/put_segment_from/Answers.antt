@@ -2,6 +2,7 @@ use Rattle.std.proofs.Common.{ℕ, ◌-◌, ◌<◌, List, length, take, drop, s
 use Rattle.std.proofs.lemmas.List.{take_rest, length-drop}
 use Rattle.rec_bytes.specs.Configuration.{Fields}
 use Rattle.rec_bytes.specs.Places.{with_bytes}
+use Rattle.rec_bytes.specs.Laws.{with_bytes-part}
 use Rattle.rec_bytes.specs.Views.{view}
 use Rattle.mxf_metadata.specs.declared.ids.Ids.{Ids}
 use Rattle.mxf_index.specs.Segments.{index_segment}
@@ -9,7 +10,6 @@ use Rattle.mxf_take_file.specs.Kept.{extents_kept}
 use Rattle.mxf_take_file.specs.Segments.{segment_from}
 use Rattle.mxf_take_file.specs.Laws.Parts.{kept_whole}
 use Rattle.mxf_take_file.proofs.SegmentLemmas.{none_from, with_nothing, some_from, some_len}
-use Rattle.mxf_take_file.proofs.WriteLemmas.{part_is}
 use Rattle.mxf_take_file.proofs.put.put_segment_from.Goals as goal
 
 pub returns-then-first-places-clause-behind : goal.returns-then-first-places-clause-behind
@@ -44,5 +44,6 @@ returns-clause-written c =
     let segment = some_from cfg c.args.places.now c.args.first streams some c.gather-count.ensures.gathered in
     let written = c.put_segment.ensures.written
     ∙ ap (λ (ids : Ids). with_bytes (take (length out - at) (drop at out)) 0 (index_segment cfg ids c.args.first streams)) c.new-ids.ensures
-    ∙ ap (λ (bytes : List ℕ). with_bytes (take (length out - at) (drop at out)) 0 bytes) (sym segment) in
-    part_is out c.put_segment.new.out (segment_from cfg (extents_kept c.args.places.now) c.args.first) at (omega (arith, c.requires.room)) written
+    ∙ ap (λ (bytes : List ℕ). with_bytes (take (length out - at) (drop at out)) 0 bytes) (sym segment)
+    ∙ ap (λ (rest : List ℕ). with_bytes rest 0 (segment_from cfg (extents_kept c.args.places.now) c.args.first)) (take_rest out at) in
+    with_bytes-part out at c.put_segment.new.out (segment_from cfg (extents_kept c.args.places.now) c.args.first) (omega (arith, c.requires.room)) written

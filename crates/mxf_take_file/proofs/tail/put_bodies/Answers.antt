@@ -1,13 +1,13 @@
 use Rattle.std.proofs.Common.{◌≡◌, ℕ, ◌*◌, ◌<◌, List, length, ap, ◌∙◌, arith}
 use Rattle.std.specs.List.{flat_map}
 use Rattle.rec_bytes.specs.Places.{with_bytes}
+use Rattle.rec_bytes.specs.Laws.{with_bytes-more}
 use Rattle.mxf_partitions.specs.RandomIndex.{entry_bytes}
 use Rattle.mxf_take_file.specs.Extents.{Extents, body_count}
 use Rattle.mxf_take_file.specs.Kept.{extents_kept}
 use Rattle.mxf_take_file.specs.Packs.{body_entries, entry}
 use Rattle.mxf_index.specs.declared.tags.TheConstants.{ESSENCE_STREAM}
 use Rattle.mxf_take_file.proofs.TailLemmas.{bodies_len, bodies_more, body_within}
-use Rattle.mxf_take_file.proofs.WriteLemmas.{more}
 use Rattle.mxf_take_file.proofs.tail.put_bodies.Goals as goal
 
 pub overflow_mul-k : goal.overflow_mul-k
@@ -34,7 +34,7 @@ bodies-preserved c =
     let times : k * c.from.result ≡ k * part = ap (λ (n : ℕ). k * n) c.from.ensures in
     let place : c.end_of-at.result ≡ e.end_of (k * part) = c.end_of-at.ensures ∙ ap e.end_of times in
     let second = c.put_pack_entry-end.ensures.written ∙ ap (λ (n : ℕ). with_bytes c.bodies.out c.bodies.end (entry_bytes (entry ESSENCE_STREAM n))) place in
-    let both = more old c.args.at c.bodies.end (flat_map entry_bytes (body_entries part e k)) (entry_bytes (entry ESSENCE_STREAM (e.end_of (k * part)))) c.bodies.out c.put_pack_entry-end.new.out
+    let both = with_bytes-more old c.args.at c.bodies.end (flat_map entry_bytes (body_entries part e k)) (entry_bytes (entry ESSENCE_STREAM (e.end_of (k * part)))) c.bodies.out c.put_pack_entry-end.new.out
     c.bodies.invariant.written (omega (arith, c.bodies.invariant.behind, bodies_len part e k)) (omega (arith, c.bodies.invariant.behind, c.requires.room, c.bodies-test.true)) second in
     record {
       behind = omega (arith, c.put_pack_entry-end.ensures.behind, c.bodies.invariant.behind);

@@ -2,7 +2,7 @@ use Rattle.std.proofs.Common.{◌≡◌, ℕ, ◌+◌, List, ◌++◌, length, s
 use Rattle.std.proofs.lemmas.List.{length-append}
 use Rattle.rec_bytes.specs.Configuration.{Fields}
 use Rattle.rec_bytes.specs.Places.{with_bytes}
-use Rattle.rec_bytes.specs.Laws.{with_bytes-whole}
+use Rattle.rec_bytes.specs.Laws.{with_bytes-more, with_bytes-whole}
 use Rattle.rec_bytes.specs.Views.{view}
 use Rattle.mxf_partitions.specs.Partitions.{partition_pack}
 use Rattle.mxf_partitions.specs.RandomIndex.{random_index_pack}
@@ -17,7 +17,6 @@ use Rattle.mxf_take_file.specs.Segments.{segment_from, last_first}
 use Rattle.mxf_take_file.specs.Laws.Counts.{last_few}
 use Rattle.mxf_take_file.specs.Laws.Parts.{metadata_len}
 use Rattle.mxf_take_file.proofs.TailLemmas.{footer_pack_len, footer_pack_labels, tail_parts}
-use Rattle.mxf_take_file.proofs.WriteLemmas.{more}
 use Rattle.mxf_take_file.proofs.tail.put_tail.Goals as goal
 
 pub put_pack-sets_at-requires-clause-label : goal.put_pack-sets_at-requires-clause-label
@@ -67,12 +66,12 @@ returns c =
     let at_2 = c.put_sets-segment_at.ensures.behind in
     let at_3 = c.put_segment_from-packs_at.ensures.behind in
     let to_p : c.put_pack-sets_at.new.out ≡ with_bytes old 0 p = c.put_pack-sets_at.ensures.written ∙ ap (λ (q : Partition). with_bytes old 0 (partition_pack q)) c.footer_pack.ensures in
-    let to_m : c.put_sets-segment_at.new.out ≡ with_bytes old 0 (p ++ m) = more old 0 c.put_pack-sets_at.result p m c.put_pack-sets_at.new.out c.put_sets-segment_at.new.out
+    let to_m : c.put_sets-segment_at.new.out ≡ with_bytes old 0 (p ++ m) = with_bytes-more old 0 c.put_pack-sets_at.result p m c.put_pack-sets_at.new.out c.put_sets-segment_at.new.out
     to_p (omega (arith, at_1, long_p)) (omega (arith, at_1, parts, room)) c.put_sets-segment_at.ensures.written in
     let third : c.put_segment_from-packs_at.new.out ≡ with_bytes c.put_sets-segment_at.new.out c.put_sets-segment_at.result s =
     c.put_segment_from-packs_at.ensures.written ∙ ap (λ (n : ℕ). with_bytes c.put_sets-segment_at.new.out c.put_sets-segment_at.result (segment_from cfg e n)) c.last_first.ensures.first in
-    let to_s : c.put_segment_from-packs_at.new.out ≡ with_bytes old 0 ((p ++ m) ++ s) = more old 0 c.put_sets-segment_at.result (p ++ m) s c.put_sets-segment_at.new.out c.put_segment_from-packs_at.new.out
+    let to_s : c.put_segment_from-packs_at.new.out ≡ with_bytes old 0 ((p ++ m) ++ s) = with_bytes-more old 0 c.put_sets-segment_at.result (p ++ m) s c.put_sets-segment_at.new.out c.put_segment_from-packs_at.new.out
     to_m (omega (arith, at_1, at_2, long_p, long_m, long_pm)) (omega (arith, at_1, at_2, parts, room)) third in
-    let all = more old 0 c.put_segment_from-packs_at.result ((p ++ m) ++ s) r c.put_segment_from-packs_at.new.out c.put_packs.new.out
+    let all = with_bytes-more old 0 c.put_segment_from-packs_at.result ((p ++ m) ++ s) r c.put_segment_from-packs_at.new.out c.put_packs.new.out
     to_s (omega (arith, at_1, at_2, at_3, segment, long_p, long_m, long_pm, long_pms)) (omega (arith, at_1, at_2, at_3, segment, parts, room)) c.put_packs.ensures in
     all ∙ with_bytes-whole old (tail_of cfg e) (sym room)
