@@ -5,7 +5,7 @@ ghost use Rattle.byteorder.specs.Endian.{big_bytes};
 ghost use Rattle.rec_bytes.specs.Places.{with_bytes};
 ghost use Rattle.local_sets.specs.Values.{value_bytes, duration_bytes, batch_bytes, utf16_bytes};
 
-use rec_bytes::{put_u8, put_u16, put_u32, put_u64};
+use rec_bytes::{put_bytes, put_u8, put_u16, put_u32, put_u64};
 
 /// A value of an item, spelled high byte first.
 #[derive(Clone, Copy, Debug, PartialEq, Eq)]
@@ -96,15 +96,6 @@ pub fn put_value(value: &Value, out: &mut [u8], at: usize) -> usize
     }
 }
 
-fn put_bytes(bytes: &[u8], out: &mut [u8], at: usize) -> usize
-    requires { at + length bytes.now ≤ length out.old }
-    ensures end { result ≡ at + length bytes.now }
-    ensures written { out.new ≡ with_bytes out.old at bytes.now }
-{
-    out[at..at + bytes.len()].copy_from_slice(bytes);
-    at + bytes.len()
-}
-
 fn put_byte(number: u8, out: &mut [u8], at: usize) -> usize
     requires { at + 1 ≤ length out.old }
     ensures end { result ≡ at + 1 }
@@ -167,7 +158,8 @@ fn put_label(bytes: &[u8; 16], out: &mut [u8], at: usize) -> usize
     ensures end { result ≡ at + length bytes.now }
     ensures written { out.new ≡ with_bytes out.old at bytes.now }
 {
-    put_bytes(bytes, out, at)
+    put_bytes(out, at, bytes);
+    at + 16
 }
 
 fn put_umid(bytes: &[u8; 32], out: &mut [u8], at: usize) -> usize
@@ -175,7 +167,8 @@ fn put_umid(bytes: &[u8; 32], out: &mut [u8], at: usize) -> usize
     ensures end { result ≡ at + length bytes.now }
     ensures written { out.new ≡ with_bytes out.old at bytes.now }
 {
-    put_bytes(bytes, out, at)
+    put_bytes(out, at, bytes);
+    at + 32
 }
 
 /// Writes a batch of one.
@@ -185,7 +178,7 @@ fn put_one(item: &[u8; 16], out: &mut [u8], at: usize) -> usize
     ensures written { out.new ≡ with_bytes out.old at (batch_bytes (item.now ∷ [])) }
 {
     let items = put_ratio(1, 16, out, at);
-    put_bytes(item, out, items)
+    put_label(item, out, items)
 }
 
 /// Writes a batch of two.
@@ -195,8 +188,8 @@ fn put_two(first: &[u8; 16], second: &[u8; 16], out: &mut [u8], at: usize) -> us
     ensures written { out.new ≡ with_bytes out.old at (batch_bytes (first.now ∷ second.now ∷ [])) }
 {
     let items = put_ratio(2, 16, out, at);
-    let next = put_bytes(first, out, items);
-    put_bytes(second, out, next)
+    let next = put_label(first, out, items);
+    put_label(second, out, next)
 }
 
 /// The letters of a text that count.

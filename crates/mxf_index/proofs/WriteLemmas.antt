@@ -1,6 +1,5 @@
 -- The parts of a segment, written one behind the other.
-use Rattle.std.proofs.Common.{◌≡◌, ℕ, ◌+◌, ◌*◌, ◌≤◌, List, ◌++◌, length, ap, ap₂, ◌∙◌, arith, append_assoc, length-append}
-use Rattle.std.proofs.lemmas.List.{take_at, drop_all, append-nil}
+use Rattle.std.proofs.Common.{◌≡◌, ℕ, ◌+◌, ◌*◌, ◌≤◌, List, ◌++◌, length, ap, ◌∙◌, arith, append_assoc, length-append}
 use Rattle.rec_bytes.specs.Places.{with_bytes}
 use Rattle.rec_bytes.specs.Laws.{with_bytes-more}
 
@@ -19,9 +18,3 @@ five old key opening deltas entries closing v w x y z n end a b c d behind room 
     let front_4 : length (key ++ opening ++ deltas ++ entries) ≡ end = omega (arith, front_3, d, behind, length-append (key ++ opening ++ deltas) entries) in
     with_bytes-more old 0 end (key ++ opening ++ deltas ++ entries) closing y z to_end (omega (arith, front_4)) room fifth
     ∙ ap (with_bytes old 0) (joined key opening deltas entries closing)
-
--- the second half of 16 bytes is written
-pub second_half : (first old bytes : List ℕ) → length first ≡ 8 → length old ≡ 8 → length bytes ≡ 8 → with_bytes (first ++ old) 8 bytes ≡ first ++ bytes
-second_half first old bytes p q r =
-    ap₂ (λ (front rest : List ℕ). front ++ bytes ++ rest) (take_at first old 8 p) (drop_all (8 + length bytes) (first ++ old) (omega (arith, p, q, r, length-append first old)))
-    ∙ append-nil (first ++ bytes)

@@ -14,7 +14,7 @@ use crate::tags::*;
 use klv::{Form, put_klv_head};
 use local_sets::{Item, Value, put_items};
 use mxf_metadata::{Ids, edit_rate};
-use rec_bytes::{Config, put_u8, put_u16, put_u32, put_u64};
+use rec_bytes::{Config, put_bytes, put_u8, put_u16, put_u32, put_u64};
 
 /// The key of an index table segment (SMPTE ST 377-1).
 pub const INDEX_SEGMENT_KEY: [u8; 16] = [
@@ -96,7 +96,7 @@ fn segment_id(ids: &Ids, first: u64) -> [u8; 16]
     ensures joined { result ≡ segment_id ids.now first }
 {
     let mut id = [0; 16];
-    id[..8].copy_from_slice(&ids.index);
+    put_bytes(&mut id, 0, &ids.index);
     put_u64(&mut id, 8, first);
     id
 }

@@ -4,9 +4,8 @@ ghost use Rattle.std.specs.Prelude.{◌≡◌, take, length};
 ghost use Rattle.rec_bytes.specs.Views.{view};
 ghost use Rattle.mxf_metadata.specs.Identifiers.{AreIds, ids_of, named_id, set_id, umid};
 
-use crate::bytes::put_bytes;
 use crate::labels::UMID_HEAD;
-use rec_bytes::{Config, put_u64};
+use rec_bytes::{Config, put_bytes, put_u64};
 use uuid::Uuid;
 
 /// The identifiers that the sets of a take carry.
@@ -59,7 +58,7 @@ pub fn set_id(ids: &Ids, number: u64) -> [u8; 16]
 {
     show_sizes(ids);
     let mut id = [0; 16];
-    put_bytes(&ids.sets, &mut id, 0);
+    put_bytes(&mut id, 0, &ids.sets);
     put_u64(&mut id, 8, number);
     id
 }

@@ -11,7 +11,6 @@
 //! Nothing here reads metadata, and nothing says where in a file it stands.
 #![tactic(auto)]
 
-mod bytes;
 mod ids;
 mod labels;
 mod laws;

@@ -6,11 +6,10 @@ ghost use Rattle.klv.specs.Items.{klv_head};
 ghost use Rattle.rec_bytes.specs.Places.{with_bytes};
 ghost use Rattle.mxf_metadata.specs.Primer.{primer, primer_entry};
 
-use crate::bytes::put_bytes;
 use crate::labels::{PRIMER, PRIMER_KEY, TAG_LABEL_HEAD};
 use crate::tags::{TAGS, Tag};
 use klv::{Form, put_klv_head};
-use rec_bytes::{put_u16, put_u32};
+use rec_bytes::{put_bytes, put_u16, put_u32};
 
 /// Writes the primer pack at the front.
 pub fn put_primer(out: &mut [u8])
@@ -46,7 +45,7 @@ fn put_entry(tag: &Tag, out: &mut [u8], at: usize) -> usize
     ensures written { out.new ≡ with_bytes out.old at (primer_entry tag.now) }
 {
     put_u16(out, at, tag.tag);
-    put_bytes(&TAG_LABEL_HEAD, out, at + 2);
+    put_bytes(out, at + 2, &TAG_LABEL_HEAD);
     put_u16(out, at + 16, tag.tag);
     at + 18
 }

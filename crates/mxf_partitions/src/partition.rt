@@ -6,8 +6,8 @@ ghost use Rattle.klv.specs.Items.{klv_head};
 ghost use Rattle.rec_bytes.specs.Places.{with_bytes};
 ghost use Rattle.mxf_partitions.specs.Partitions.{kind_byte, status_byte, pack_key, label_batch, partition_pack};
 
-use crate::writes::{put_head, put_label};
-use rec_bytes::{put_u16, put_u32, put_u64};
+use crate::writes::put_head;
+use rec_bytes::{put_bytes, put_u16, put_u32, put_u64};
 
 /// Bytes of a partition pack with one label.
 pub const PACK_LEN: usize = 124;
@@ -194,10 +194,10 @@ fn put_labels(p: &Partition, out: &mut [u8], at: usize)
     ensures label { length p.now.label ≡ 16 }
     ensures written { out.new ≡ with_bytes out.old at (p.now.pattern ++ label_batch (p.now.label ∷ [])) }
 {
-    put_label(&p.pattern, out, at);
+    put_bytes(out, at, &p.pattern);
     put_u32(out, at + 16, 1);
     put_u32(out, at + 20, 16);
-    put_label(&p.label, out, at + 24);
+    put_bytes(out, at + 24, &p.label);
 }
 
 #[cfg(test)]

@@ -15,12 +15,3 @@ pub(crate) fn put_head(key: &[u8; 16], len: u64, out: &mut [u8], at: usize) -> u
 {
     at + put_klv_head(key, len, Form::Three, &mut out[at..])
 }
-
-/// Writes 16 bytes.
-pub(crate) fn put_label(label: &[u8; 16], out: &mut [u8], at: usize)
-    requires room { at + 16 ≤ length out.old }
-    ensures sized { length label.now ≡ 16 }
-    ensures written { out.new ≡ with_bytes out.old at label.now }
-{
-    out[at..at + 16].copy_from_slice(label);
-}

@@ -17,7 +17,7 @@ use klv::{Form, PICTURE_ELEMENT_KEY, put_klv_head};
 use mxf_index::put_segment;
 use mxf_metadata::{Ids, METADATA, put_metadata};
 use mxf_partitions::{PACK_LEN, Partition, put_partition};
-use rec_bytes::Config;
+use rec_bytes::{Config, put_bytes};
 use take_core::Place;
 
 /// Writes the pack of a partition, and answers the place behind.
@@ -29,15 +29,8 @@ pub fn put_pack(pack: &Partition, out: &mut [u8], at: usize) -> usize
 {
     let mut bytes = [0u8; PACK_LEN];
     put_partition(pack, &mut bytes);
-    put_pack_bytes(&bytes, out, at);
+    put_bytes(out, at, &bytes);
     at + PACK_LEN
-}
-
-fn put_pack_bytes(bytes: &[u8; PACK_LEN], out: &mut [u8], at: usize)
-    requires room { at + 124 ≤ length out.old }
-    ensures written { out.new ≡ with_bytes out.old at bytes.now }
-{
-    out[at..at + PACK_LEN].copy_from_slice(bytes);
 }
 
 /// Writes the header metadata, and answers the place behind.

@@ -6,7 +6,7 @@ ghost use Rattle.rec_bytes.specs.declared.layout.TheConstants.{CONFIG_LEN};
 
 use crate::config::Config;
 use crate::layout::*;
-use crate::number::{put_u16, put_u32};
+use crate::number::{put_bytes, put_u16, put_u32};
 use byteorder::{BigEndian, ByteOrder};
 
 /// Reads a configuration (docs/FORMATS.md, "Configuration"). `Err` is the first byte of the first field
@@ -244,5 +244,5 @@ fn append<const N: usize>(out: &mut [u8; CONFIG_LEN], at: usize, bytes: &[u8; N]
     requires { at + N ≤ CONFIG_LEN }
     ensures { take (at + N) out.new ≡ take at out.old ++ bytes.now }
 {
-    out[at..at + N].copy_from_slice(bytes);
+    put_bytes(out, at, bytes);
 }

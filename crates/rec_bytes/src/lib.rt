@@ -24,5 +24,7 @@ pub use layout::{
     CONFIG_LEN, MAX_ASPECT, MAX_BUDGET, MAX_CODING, MAX_DROP, MAX_FRAMES, MAX_HEIGHT, MAX_INDEX,
     MAX_INTERLACE, MAX_LAG, MAX_LOG2, MAX_PART, MAX_RATE, MAX_WEIGHTS, MAX_WIDTH,
 };
-pub use number::{put_u8, put_u16, put_u32, put_u64, take_u8, take_u16, take_u32, take_u64};
+pub use number::{
+    put_bytes, put_u8, put_u16, put_u32, put_u64, take_u8, take_u16, take_u32, take_u64,
+};
 pub use status::{Failed, Memory, Status};

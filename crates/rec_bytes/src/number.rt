@@ -73,6 +73,14 @@ pub fn put_u64(out: &mut [u8], at: usize, value: u64)
     BigEndian::write_u64(&mut out[at..], value);
 }
 
+/// Writes bytes at a place.
+pub fn put_bytes(out: &mut [u8], at: usize, bytes: &[u8])
+    requires { at + length bytes.now ≤ length out.old }
+    ensures { out.new ≡ with_bytes out.old at bytes.now }
+{
+    out[at..at + bytes.len()].copy_from_slice(bytes);
+}
+
 /// Shows that a number which was put is taken again. It does nothing when it runs.
 pub fn put_is_taken()
     ensures { (bytes : List ℕ) (n at value : ℕ) → at + n ≤ length bytes → value < 256 ^ n

@@ -1,6 +1,6 @@
 use crate::{
-    Config, Memory, put_config, put_u8, put_u16, put_u32, put_u64, read_config, take_u8, take_u16,
-    take_u32, take_u64,
+    Config, Memory, put_bytes, put_config, put_u8, put_u16, put_u32, put_u64, read_config, take_u8,
+    take_u16, take_u32, take_u64,
 };
 use std::alloc::Global;
 
@@ -151,15 +151,16 @@ fn numbers_stand_at_their_places(rt: HostRuntime) {
     assert_eq!(rt; take_u64(&bytes, 2), None);
     assert_eq!(rt; take_u64(&bytes, usize::MAX), None);
 
-    let mut out = [0xff; 17];
+    let mut out = [0xff; 20];
     put_u8(&mut out, 1, 1);
     put_u16(&mut out, 2, 0x0203);
     put_u32(&mut out, 4, 0x0405_0607);
     put_u64(&mut out, 8, 0x0809_0a0b_0c0d_0e0f);
+    put_bytes(&mut out, 16, &[16, 17, 18]);
     assert_eq!(rt;
         out,
         [
-            0xff, 1, 2, 3, 4, 5, 6, 7, 8, 9, 10, 11, 12, 13, 14, 15, 0xff
+            0xff, 1, 2, 3, 4, 5, 6, 7, 8, 9, 10, 11, 12, 13, 14, 15, 16, 17, 18, 0xff
         ]
     );
 }

@@ -12,6 +12,6 @@ returns-clause-written c =
     let room = c.requires in
     let items = c.put_ratio-items.ensures.end in
     let sizes = length-append first (c.args.second.now ++ []) in
-    let front : c.put_bytes-next.new.out ≡ with_bytes old c.args.at (head ++ first) =
-    with_bytes-more old c.args.at c.put_ratio-items.result head first c.put_ratio-items.new.out c.put_bytes-next.new.out c.put_ratio-items.ensures.written items (omega (arith, items, sizes)) c.put_bytes-next.ensures.written in
-    rw (append-nil c.args.second.now) (with_bytes-more old c.args.at c.put_bytes-next.result (head ++ first) c.args.second.now c.put_bytes-next.new.out c.put_bytes.new.out front (omega (arith, c.put_bytes-next.ensures.end, items)) (omega (arith, c.put_bytes-next.ensures.end, items, sizes)) c.put_bytes.ensures.written)
+    let front : c.put_label-next.new.out ≡ with_bytes old c.args.at (head ++ first) =
+    with_bytes-more old c.args.at c.put_ratio-items.result head first c.put_ratio-items.new.out c.put_label-next.new.out c.put_ratio-items.ensures.written items (omega (arith, items, sizes)) c.put_label-next.ensures.written in
+    rw (append-nil c.args.second.now) (with_bytes-more old c.args.at c.put_label-next.result (head ++ first) c.args.second.now c.put_label-next.new.out c.put_label.new.out front (omega (arith, c.put_label-next.ensures.end, items)) (omega (arith, c.put_label-next.ensures.end, items, sizes)) c.put_label.ensures.written)
