@@ -10,8 +10,9 @@ use Rattle.local_sets.specs.declared.value.Value.{Value}
 use Rattle.local_sets.specs.declared.value.Value.TheVariants.{Byte, Word, Long, Ratio, Label}
 use Rattle.mxf_metadata.specs.declared.ids.Ids.{Ids}
 use Rattle.mxf_metadata.specs.Pictures.{edit_rate}
+use Rattle.mxf_metadata.specs.declared.tags.TheConstants.{INSTANCE_ID, INDEX_SID, BODY_SID}
 use Rattle.mxf_index.specs.declared.segment.TheConstants.{INDEX_SEGMENT_KEY}
-use Rattle.mxf_index.specs.declared.tags.TheConstants.{INSTANCE_ID, INDEX_EDIT_RATE, INDEX_START_POSITION, INDEX_DURATION, EDIT_UNIT_BYTE_COUNT, INDEX_SID, BODY_SID, SLICE_COUNT, DELTA_ENTRIES, INDEX_ENTRIES, POS_TABLE_COUNT}
+use Rattle.mxf_index.specs.declared.tags.TheConstants.{INDEX_EDIT_RATE, INDEX_START_POSITION, INDEX_DURATION, EDIT_UNIT_BYTE_COUNT, SLICE_COUNT, DELTA_ENTRIES, INDEX_ENTRIES, POS_TABLE_COUNT}
 use Rattle.mxf_index.specs.declared.tags.TheConstants.{INDEX_STREAM, ESSENCE_STREAM, RANDOM_ACCESS, DELTA_SIZE, ENTRY_SIZE}
 
 -- an item whose value is one of those of local sets

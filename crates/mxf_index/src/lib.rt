@@ -12,5 +12,5 @@
 mod segment;
 mod tags;
 
-pub use segment::{INDEX_SEGMENT_KEY, MAX_ENTRIES, put_segment, segment_len};
-pub use tags::{ESSENCE_STREAM, INDEX_STREAM};
+pub use segment::{INDEX_SEGMENT_KEY, MAX_ENTRIES, SEGMENT_LEN, put_segment, segment_len};
+pub use tags::{ENTRY_SIZE, ESSENCE_STREAM, INDEX_STREAM};

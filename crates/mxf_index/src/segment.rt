@@ -13,7 +13,7 @@ ghost use Rattle.mxf_index.specs.declared.tags.TheConstants.{DELTA_ENTRIES, INDE
 use crate::tags::*;
 use klv::{Form, put_klv_head};
 use local_sets::{Item, Value, put_items};
-use mxf_metadata::{Ids, edit_rate};
+use mxf_metadata::{BODY_SID, INDEX_SID, INSTANCE_ID, Ids, edit_rate};
 use rec_bytes::{Config, put_bytes, put_u8, put_u16, put_u32, put_u64};
 
 /// The key of an index table segment (SMPTE ST 377-1).
@@ -21,14 +21,17 @@ pub const INDEX_SEGMENT_KEY: [u8; 16] = [
     0x06, 0x0e, 0x2b, 0x34, 0x02, 0x53, 0x01, 0x01, 0x0d, 0x01, 0x02, 0x01, 0x01, 0x10, 0x01, 0x00,
 ];
 
+/// Bytes of a segment without its entries.
+pub const SEGMENT_LEN: usize = 140;
+
 /// Most frames of a segment: the length of the item that holds the entries has two bytes.
 pub const MAX_ENTRIES: u32 = 5957;
 
 /// Bytes of a segment with so many frames.
 pub fn segment_len(entries: u32) -> usize
-    ensures { result ≡ 140 + 11 * entries }
+    ensures { result ≡ SEGMENT_LEN + ENTRY_SIZE * entries }
 {
-    140 + 11 * (entries as usize)
+    SEGMENT_LEN + (ENTRY_SIZE as usize) * (entries as usize)
 }
 
 /// Writes at the front the segment of the frames from one on, whose elements stand at these stream offsets, and
@@ -37,8 +40,8 @@ pub fn put_segment(cfg: &Config, ids: &Ids, first: u64, streams: &[u64], out: &m
     requires first { first < 2 ^ 63 }
     requires some { 1 ≤ length streams.now }
     requires few { length streams.now ≤ MAX_ENTRIES }
-    requires room { 140 + 11 * length streams.now ≤ length out.old }
-    ensures count { result ≡ 140 + 11 * length streams.now }
+    requires room { SEGMENT_LEN + ENTRY_SIZE * length streams.now ≤ length out.old }
+    ensures count { result ≡ SEGMENT_LEN + ENTRY_SIZE * length streams.now }
     ensures written { out.new ≡ with_bytes out.old 0 (index_segment (view cfg.now) ids.now first streams.now) }
 {
     let count = streams.len() as u32;

@@ -1,7 +1,5 @@
-//! The local tags of an index table segment (SMPTE ST 377-1) and the numbers that ours hold.
+//! The local tags that only an index table segment has (SMPTE ST 377-1), and the numbers that ours hold.
 
-/// Instance UID: the identifier of the segment.
-pub const INSTANCE_ID: u16 = 0x3c0a;
 /// Index Edit Rate.
 pub const INDEX_EDIT_RATE: u16 = 0x3f0b;
 /// Index Start Position: the first frame.
@@ -10,10 +8,6 @@ pub const INDEX_START_POSITION: u16 = 0x3f0c;
 pub const INDEX_DURATION: u16 = 0x3f0d;
 /// Edit Unit Byte Count: 0 where frames differ in length.
 pub const EDIT_UNIT_BYTE_COUNT: u16 = 0x3f05;
-/// Index SID: the stream of index tables.
-pub const INDEX_SID: u16 = 0x3f06;
-/// Body SID: the stream of essence.
-pub const BODY_SID: u16 = 0x3f07;
 /// Slice Count: slices of an edit unit but the first.
 pub const SLICE_COUNT: u16 = 0x3f08;
 /// Delta Entry Array.

@@ -26,5 +26,5 @@ pub use ids::Ids;
 pub use labels::{METADATA, PICTURE_TRACK_NUMBER, PRIMER};
 pub use laws::metadata_holds;
 pub use rates::edit_rate;
-pub use tags::{Size, TAGS, Tag};
+pub use tags::{BODY_SID, INDEX_SID, INSTANCE_ID, Size, TAGS, Tag};
 pub use writing::put_metadata;

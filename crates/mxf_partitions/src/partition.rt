@@ -89,7 +89,7 @@ pub struct Partition {
 }
 
 /// Writes the pack of a partition, which has one label.
-pub fn put_partition(p: &Partition, out: &mut [u8; 124])
+pub fn put_partition(p: &Partition, out: &mut [u8; PACK_LEN])
     requires { p.now.label_count ≡ 1 }
     ensures { out.new ≡ partition_pack p.now }
 {

@@ -1,8 +1,11 @@
 -- How far the file of units and its essence stream reach (own layout). docs/FORMATS.md, "A take's file".
 use Rattle.std.specs.Prelude.{ℕ, ◌+◌, ◌-◌, ◌*◌, List, length, take}
 use Rattle.std.specs.Int.{div_ceil}
+use Rattle.mxf_partitions.specs.declared.partition.TheConstants.{PACK_LEN}
+use Rattle.mxf_index.specs.declared.segment.TheConstants.{SEGMENT_LEN}
+use Rattle.mxf_index.specs.declared.tags.TheConstants.{ENTRY_SIZE}
 use Rattle.mxf_take_file.specs.Essence.{essence, stream_offsets}
-use Rattle.mxf_take_file.specs.declared.numbers.TheConstants.{HEAD_LEN, SEGMENT_LEN, ENTRY_LEN}
+use Rattle.mxf_take_file.specs.declared.numbers.TheConstants.{HEAD_LEN}
 
 -- the body partitions of n units: one begins before every unit whose number is a multiple of part
 unfoldable pub body_count : ℕ → ℕ → ℕ
@@ -10,13 +13,13 @@ body_count part n = div_ceil n part
 
 -- the length of an index table segment of n entries
 abbrev pub segment_bytes : ℕ → ℕ
-segment_bytes n = SEGMENT_LEN + ENTRY_LEN * n
+segment_bytes n = SEGMENT_LEN + ENTRY_SIZE * n
 
 -- the length of the growing file: the head, the packs of the body partitions, in each but the first the index table
 -- segment of the units of the one before, and the essence stream
 abbrev pub file_len : ℕ → List (List ℕ) → ℕ
 file_len part units =
-    HEAD_LEN + body_count part (length units) * 124 + (body_count part (length units) - 1) * segment_bytes part
+    HEAD_LEN + body_count part (length units) * PACK_LEN + (body_count part (length units) - 1) * segment_bytes part
     + length (essence units)
 
 -- what the partitions of a file say of its units: how many there are, where the growing file of the first so many ends,

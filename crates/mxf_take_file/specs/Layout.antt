@@ -5,6 +5,7 @@ use Rattle.klv.specs.Items.{klv_head}
 use Rattle.klv.specs.declared.picture.TheConstants.{PICTURE_ELEMENT_KEY}
 use Rattle.mxf_partitions.specs.Partitions.{partition_pack}
 use Rattle.mxf_partitions.specs.RandomIndex.{random_index_pack, random_index_size}
+use Rattle.mxf_partitions.specs.declared.partition.TheConstants.{PACK_LEN}
 use Rattle.mxf_metadata.specs.Identifiers.{ids_of}
 use Rattle.mxf_metadata.specs.Metadata.{metadata}
 use Rattle.mxf_metadata.specs.declared.labels.TheConstants.{METADATA}
@@ -69,8 +70,8 @@ stream_of cfg units = length (essence units)
 
 -- the longest lead: a pack, the index table segment of a whole body partition, and an element's key and length
 abbrev pub lead_most : Fields → ℕ
-lead_most cfg = 124 + segment_bytes cfg.part + 24
+lead_most cfg = PACK_LEN + segment_bytes cfg.part + 24
 
 -- a tail with as many index entries as a body partition has, and as many partitions as the take may have
 abbrev pub tail_most : Fields → ℕ
-tail_most cfg = 124 + METADATA + segment_bytes cfg.part + random_index_size (body_count cfg.part cfg.max_frames + 2)
+tail_most cfg = PACK_LEN + METADATA + segment_bytes cfg.part + random_index_size (body_count cfg.part cfg.max_frames + 2)

@@ -4,6 +4,7 @@ use Rattle.std.specs.Prelude.{ℕ, ◌+◌, ◌-◌, ◌^◌, Bool, nat_lt, ◌=
 use Rattle.std.specs.Str.{bytes_eq}
 use Rattle.byteorder.specs.Endian.{big_number}
 use Rattle.klv.specs.declared.picture.TheConstants.{PICTURE_ELEMENT_KEY}
+use Rattle.mxf_partitions.specs.declared.partition.TheConstants.{PACK_LEN}
 use Rattle.mxf_index.specs.declared.segment.TheConstants.{INDEX_SEGMENT_KEY}
 use Rattle.take_core.specs.declared.walk.Walk.{Walk}
 use Rattle.take_core.specs.declared.walk.Walk.TheVariants as walk
@@ -26,10 +27,10 @@ stand_at bytes at =
 -- the same behind the pack of a body partition and its index table segment
 unfoldable pub stand_behind_pack : ℕ → List ℕ → Stand
 stand_behind_pack part bytes =
-    if nat_lt (length bytes) 148 then More 148
-    else if stands bytes 124 PICTURE_ELEMENT_KEY then At 124
-    else if stands bytes 124 INDEX_SEGMENT_KEY then stand_at bytes (124 + segment_bytes part)
-    else Broken 124
+    if nat_lt (length bytes) (PACK_LEN + 24) then More (PACK_LEN + 24)
+    else if stands bytes PACK_LEN PICTURE_ELEMENT_KEY then At PACK_LEN
+    else if stands bytes PACK_LEN INDEX_SEGMENT_KEY then stand_at bytes (PACK_LEN + segment_bytes part)
+    else Broken PACK_LEN
 
 -- the same at the end of a lead
 unfoldable pub stand_first : ℕ → List ℕ → Stand

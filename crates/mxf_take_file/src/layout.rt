@@ -2,11 +2,12 @@
 
 ghost use Rattle.std.specs.Prelude.{◌≡◌, ◌≤◌, length};
 
-use crate::numbers::{ENTRY_LEN, HEAD_LEN, SEGMENT_LEN};
+use crate::numbers::HEAD_LEN;
 use crate::packs::body_count;
 use crate::{lead, tail, walk};
+use mxf_index::segment_len;
 use mxf_metadata::METADATA;
-use mxf_partitions::random_index_len;
+use mxf_partitions::{PACK_LEN, random_index_len};
 use rec_bytes::Config;
 use take_core::{Place, TakeLayout, Walk};
 
@@ -46,14 +47,14 @@ impl TakeLayout for PictureLayout {
 
     fn lead_room(cfg: &Config) -> u64 {
         cfg.ranges();
-        (124 + SEGMENT_LEN + ENTRY_LEN * usize::from(cfg.part) + 24) as u64
+        (PACK_LEN + segment_len(u32::from(cfg.part)) + 24) as u64
     }
 
     fn tail_room(cfg: &Config) -> u64 {
         cfg.ranges();
         let partitions = (body_count(cfg.part, cfg.max_frames as usize) + 2) as u32;
-        let segment = SEGMENT_LEN + ENTRY_LEN * usize::from(cfg.part);
-        (124 + METADATA + segment + random_index_len(partitions)) as u64
+        let segment = segment_len(u32::from(cfg.part));
+        (PACK_LEN + METADATA + segment + random_index_len(partitions)) as u64
     }
 
     fn put_head(cfg: &Config, out: &mut [u8]) {

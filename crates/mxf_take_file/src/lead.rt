@@ -9,6 +9,7 @@ ghost use Rattle.mxf_take_file.specs.Layout.{head, body_start, lead_of, start_of
 
 use crate::packs::{body_pack, header_pack, segment_size, whole_first};
 use crate::put::{put_element_head, put_pack, put_segment_from, put_sets};
+use mxf_partitions::PACK_LEN;
 use rec_bytes::Config;
 use take_core::Place;
 
@@ -28,7 +29,7 @@ fn body_start_len(cfg: &Config, places: &[Place]) -> u64
     ensures size { result ≡ length (body_start (view cfg.now) (extents_kept places.now)) }
     ensures few { result ≤ 22264 }
 {
-    124 + segment_size(places.len() - whole_first(cfg, places))
+    PACK_LEN as u64 + segment_size(places.len() - whole_first(cfg, places))
 }
 
 /// Writes the start of a body partition at the front, and answers the place behind.

@@ -3,12 +3,6 @@
 /// Bytes of a head: the header partition.
 pub const HEAD_LEN: u64 = 3289;
 
-/// Bytes of an index table segment without its entries.
-pub const SEGMENT_LEN: usize = 140;
-
-/// Bytes of an entry of an index table segment.
-pub const ENTRY_LEN: usize = 11;
-
 /// Most bytes of a unit.
 pub const MAX_UNIT: u64 = 1 << 28;
 

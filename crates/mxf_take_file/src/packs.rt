@@ -9,8 +9,7 @@ ghost use Rattle.mxf_take_file.specs.Segments.{whole_first, last_first, pack_bef
 ghost use Rattle.mxf_take_file.specs.Extents.{body_count};
 
 use crate::kept::{end_of, total_of};
-use crate::numbers::{ENTRY_LEN, SEGMENT_LEN};
-use mxf_index::{ESSENCE_STREAM, INDEX_STREAM};
+use mxf_index::{ESSENCE_STREAM, INDEX_STREAM, segment_len};
 use mxf_metadata::METADATA;
 use mxf_partitions::{
     ESSENCE_CONTAINER_LABEL, OPERATIONAL_PATTERN, Partition, PartitionKind, PartitionStatus,
@@ -68,7 +67,7 @@ pub fn segment_size(entries: usize) -> u64
     if entries == 0 {
         return 0;
     }
-    (SEGMENT_LEN + ENTRY_LEN * entries) as u64
+    segment_len(entries as u32) as u64
 }
 
 fn index_stream(bytes: u64) -> u32

@@ -9,6 +9,7 @@ ghost use Rattle.rec_bytes.specs.Views.{view};
 ghost use Rattle.mxf_metadata.specs.Identifiers.{ids_of};
 ghost use Rattle.mxf_metadata.specs.Metadata.{metadata};
 ghost use Rattle.mxf_partitions.specs.Partitions.{partition_pack};
+ghost use Rattle.mxf_partitions.specs.declared.partition.TheConstants.{PACK_LEN};
 ghost use Rattle.mxf_take_file.specs.Kept.{AreSmall, extents_kept};
 ghost use Rattle.mxf_take_file.specs.Segments.{segment_from};
 ghost use Rattle.take_core.specs.declared.place.Place.{Place};
@@ -23,8 +24,8 @@ use take_core::Place;
 /// Writes the pack of a partition, and answers the place behind.
 pub fn put_pack(pack: &Partition, out: &mut [u8], at: usize) -> usize
     requires label { pack.now.label_count ≡ 1 }
-    requires room { at + 124 ≤ length out.old }
-    ensures behind { result ≡ at + 124 }
+    requires room { at + PACK_LEN ≤ length out.old }
+    ensures behind { result ≡ at + PACK_LEN }
     ensures written { out.new ≡ with_bytes out.old at (partition_pack pack.now) }
 {
     let mut bytes = [0u8; PACK_LEN];

@@ -17,7 +17,8 @@ use crate::put::{put_pack, put_segment_from, put_sets};
 use mxf_index::ESSENCE_STREAM;
 use mxf_metadata::METADATA;
 use mxf_partitions::{
-    PackEntry, put_pack_entry, put_random_index_end, put_random_index_head, random_index_len,
+    PACK_LEN, PackEntry, put_pack_entry, put_random_index_end, put_random_index_head,
+    random_index_len,
 };
 use rec_bytes::Config;
 use take_core::Place;
@@ -30,7 +31,7 @@ pub fn tail_len(cfg: &Config, places: &[Place]) -> u64
 {
     let entries = places.len() - last_first(cfg, places);
     let partitions = (body_count(cfg.part, places.len()) + 2) as u32;
-    124 + METADATA as u64 + segment_size(entries) + random_index_len(partitions) as u64
+    PACK_LEN as u64 + METADATA as u64 + segment_size(entries) + random_index_len(partitions) as u64
 }
 
 /// Writes the tail behind the units at the places.

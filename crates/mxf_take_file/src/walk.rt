@@ -5,10 +5,11 @@ ghost use Rattle.std.specs.Str.{bytes_eq};
 ghost use Rattle.mxf_take_file.specs.declared.walk.Stand.TheVariants.{At};
 ghost use Rattle.mxf_take_file.specs.Standing.{stands, stand_at, stand_behind_pack, stand_first, found_at, look_at};
 
-use crate::numbers::{BODY_KEY, ENTRY_LEN, MAX_UNIT, SEGMENT_LEN};
+use crate::numbers::{BODY_KEY, MAX_UNIT};
 use byteorder::{BigEndian, ByteOrder};
 use klv::PICTURE_ELEMENT_KEY;
-use mxf_index::INDEX_SEGMENT_KEY;
+use mxf_index::{INDEX_SEGMENT_KEY, segment_len};
+use mxf_partitions::PACK_LEN;
 use take_core::Walk;
 
 /// Where the key of the picture element stands at the end of a lead, as a place behind the lead's first byte.
@@ -53,16 +54,16 @@ fn element_behind_pack(part: u16, bytes: &[u8]) -> Stand
     ensures stand { result ≡ stand_behind_pack part bytes.now }
     ensures room { (k : ℕ) → result ≡ At k → k + 24 ≤ length bytes.now }
 {
-    if bytes.len() < 148 {
-        return Stand::More(148);
+    if bytes.len() < PACK_LEN + 24 {
+        return Stand::More(PACK_LEN + 24);
     }
-    if key_stands(bytes, 124, &PICTURE_ELEMENT_KEY) {
-        return Stand::At(124);
+    if key_stands(bytes, PACK_LEN, &PICTURE_ELEMENT_KEY) {
+        return Stand::At(PACK_LEN);
     }
-    if !key_stands(bytes, 124, &INDEX_SEGMENT_KEY) {
-        return Stand::Broken(124);
+    if !key_stands(bytes, PACK_LEN, &INDEX_SEGMENT_KEY) {
+        return Stand::Broken(PACK_LEN);
     }
-    element_at(bytes, 124 + SEGMENT_LEN + ENTRY_LEN * usize::from(part))
+    element_at(bytes, PACK_LEN + segment_len(u32::from(part)))
 }
 
 /// The same from the front of a lead on.

@@ -4,6 +4,7 @@ use Rattle.std.proofs.lemmas.Bool.{cases_eq, eq-eqb, ne_eqb}
 use Rattle.std.proofs.lemmas.List.{length-append}
 use Rattle.std.proofs.lemmas.List.Concat.{flat_map-append}
 use Rattle.klv.specs.Picture.{picture_element}
+use Rattle.mxf_partitions.specs.declared.partition.TheConstants.{PACK_LEN}
 use Rattle.mxf_take_file.specs.Essence.{essence}
 use Rattle.mxf_take_file.specs.Extents.{body_count, file_len, segment_bytes}
 use Rattle.klv.specs.Items.{klv_head, length_bytes}
@@ -14,11 +15,11 @@ use Rattle.mxf_take_file.specs.Laws.Counts.{count_none, count_begins, count_stay
 
 -- the length of a body partition before a unit, by the number of units before it
 abbrev pub partition_len : ℕ → ℕ → ℕ
-partition_len part n = cond (n % part == 0) (124 + cond (n == 0) 0 (segment_bytes part)) 0
+partition_len part n = cond (n % part == 0) (PACK_LEN + cond (n == 0) 0 (segment_bytes part)) 0
 
 -- the file by three numbers
 abbrev pub len_by : ℕ → ℕ → ℕ → ℕ
-len_by part n total = HEAD_LEN + body_count part n * 124 + (body_count part n - 1) * segment_bytes part + total
+len_by part n total = HEAD_LEN + body_count part n * PACK_LEN + (body_count part n - 1) * segment_bytes part + total
 
 -- the file with one more unit
 pub len_more : (part n total len : ℕ) → 0 < part → len_by part n total + (partition_len part n + 24) + len ≡ len_by part (n + 1) (total + (24 + len))
