@@ -3,3 +3,4 @@ pub mod LevelLemmas
 pub mod ReciprocalLemmas
 pub mod HalfStepLemmas
 pub mod ChangeLemmas
+pub mod RowLemmas

@@ -1,6 +1,6 @@
 //! The half steps of coefficients: their sizes in 2^25 times the weight, with their signs.
 
-ghost use Rattle.std.specs.Prelude.{◌≡◌, ◌≤◌, ◌<◌, ◌^◌, ◌/◌, ℤ};
+ghost use Rattle.std.specs.Prelude.{◌≡◌, ◌≢◌, ◌≤◌, ◌<◌, ◌+◌, ◌*◌, ◌^◌, ◌/◌, ℕ, ℤ, pos, slice_index, slice_index_or};
 ghost use Rattle.std.specs.Int.RustNames.{unsigned_abs};
 ghost use Rattle.prores_scan.specs.HalfSteps.{half_steps_of, is_minus, AreHalfSteps, AreShort, AreDivisors, AreCoefficients};
 ghost use Rattle.prores_scan.specs.Reciprocals.{IsFactor, AreFactors};
@@ -36,9 +36,55 @@ impl Divisors {
         ensures half_steps { AreHalfSteps g.now self.now.weights out.new }
         ensures short { AreShort out.new }
     {
-        for k in 0..64 {
-            out[k] = half_steps_at(g[k], self.factors[k], self.weights[k]);
+        for row in 0..8 {
+            put_row(out, row, self.row_half_steps(g, row));
         }
+    }
+
+    /// The half steps of a row, in one straight line: all eight are read before the first is written, and so this
+    /// compiles to lanes without a test whether the arrays overlap.
+    #[inline(always)]
+    fn row_half_steps(&self, g: &[i64; 64], row: usize) -> [u16; 8]
+        requires g { AreCoefficients g.now }
+        requires row { row < 8 }
+        ensures half_steps { (x : ℕ) → x < 8 → slice_index result x
+            ≡ half_steps_of (slice_index_or g.now (8 * row + x) (pos 0)) (slice_index self.now.weights (8 * row + x)) }
+        ensures short { AreShort result }
+    {
+        let start = 8 * row;
+        [
+            self.place_half_steps(g, start),
+            self.place_half_steps(g, start + 1),
+            self.place_half_steps(g, start + 2),
+            self.place_half_steps(g, start + 3),
+            self.place_half_steps(g, start + 4),
+            self.place_half_steps(g, start + 5),
+            self.place_half_steps(g, start + 6),
+            self.place_half_steps(g, start + 7),
+        ]
+    }
+
+    /// The half steps of the coefficient at a place.
+    #[inline(always)]
+    fn place_half_steps(&self, g: &[i64; 64], k: usize) -> u16
+        requires g { AreCoefficients g.now }
+        requires k { k < 64 }
+        ensures half_steps { result ≡ half_steps_of (slice_index_or g.now k (pos 0)) (slice_index self.now.weights k) }
+        ensures short { result < 2 ^ 15 }
+    {
+        half_steps_at(g[k], self.factors[k], self.weights[k])
+    }
+}
+
+/// Writes a row of a block.
+#[inline(always)]
+fn put_row(out: &mut [u16; 64], row: usize, values: [u16; 8])
+    requires { row < 8 }
+    ensures placed { (x : ℕ) → x < 8 → slice_index out.new (8 * row + x) ≡ slice_index values x }
+    ensures kept { (y x : ℕ) → x < 8 → y ≢ row → slice_index out.new (8 * y + x) ≡ slice_index out.old (8 * y + x) }
+{
+    for x in 0..8 {
+        out[8 * row + x] = values[x];
     }
 }
 
