@@ -1,5 +1,6 @@
 // The same sums as the program beside it, in plain C: columns and then rows, eight values at a time by an even and an
-// odd half, 22 products for eight sums.
+// odd half, 22 products for eight sums. Numbers are plain ints of 32 or 64 bits; eight blocks at once have their columns
+// where their samples come.
 #include <stdint.h>
 #include <stdio.h>
 #include <string.h>
@@ -77,19 +78,19 @@ NEVER static void inverse_wide(const int32_t *restrict products, uint16_t *restr
     }
 }
 
-// The samples of a row, whose values and sums stand a step apart: by the upper and the lower halves of the values.
-ALWAYS void row_samples(const int32_t *values, uint16_t *out, int step) {
+// The samples of a row, whose values stand a step apart: by the upper and the lower halves of the values.
+ALWAYS void row_samples(const int32_t *values, int step, int32_t *samples) {
     int32_t high[8], low[8], high_sums[8], low_sums[8];
     for (int u = 0; u < 8; u++) {
         int32_t value = values[step * u];
         high[u] = (value + 32768) >> 16;
-        low[u] = value - 65536 * high[u];
+        low[u] = (int16_t)value;
     }
     narrow_inverse(high, high_sums);
     narrow_inverse(low, low_sums);
     for (int x = 0; x < 8; x++) {
         int32_t carried = (low_sums[x] >> 16) + (1 << 13) + (512 << 14);
-        out[step * x] = clamped((high_sums[x] + carried) >> 14);
+        samples[x] = clamped((high_sums[x] + carried) >> 14);
     }
 }
 
@@ -114,19 +115,26 @@ NEVER static void inverse_once(const int32_t *restrict products, uint16_t *restr
         narrow_inverse(values, sums);
         for (int y = 0; y < 8; y++) columns[8 * y + u] = sums[y];
     }
-    for (int y = 0; y < 8; y++) row_samples(columns + 8 * y, out + 8 * y, 1);
+    for (int y = 0; y < 8; y++) {
+        int32_t samples[8];
+        row_samples(columns + 8 * y, 1, samples);
+        for (int x = 0; x < 8; x++) out[8 * y + x] = samples[x];
+    }
 }
 
-NEVER static void lanes_once(const int16_t *restrict products, uint16_t *restrict out) {
-    int32_t columns[512];
+NEVER static void lanes_once(const int16_t *restrict products, int32_t *restrict out) {
     for (int j = 0; j < 64; j++) {
         int32_t values[8], sums[8];
         for (int v = 0; v < 8; v++) values[v] = products[64 * v + j];
         narrow_inverse(values, sums);
-        for (int y = 0; y < 8; y++) columns[64 * y + j] = sums[y];
+        for (int y = 0; y < 8; y++) out[64 * y + j] = sums[y];
     }
     for (int y = 0; y < 8; y++) {
-        for (int lane = 0; lane < 8; lane++) row_samples(columns + 64 * y + lane, out + 64 * y + lane, 8);
+        for (int lane = 0; lane < 8; lane++) {
+            int32_t samples[8];
+            row_samples(out + 64 * y + lane, 8, samples);
+            for (int x = 0; x < 8; x++) out[64 * y + 8 * x + lane] = samples[x];
+        }
     }
 }
 
@@ -157,7 +165,7 @@ int main(void) {
             }
         } else if (!strcmp(line, "lanes")) {
             int16_t products[512] = {0};
-            uint16_t out[512];
+            int32_t out[512];
             for (uint32_t n = 0; n < BLOCKS / 8; n++) {
                 x = next(x);
                 products[n % 512] = (int16_t)(x / 65536 % 8192) - 4096;

@@ -1,5 +1,5 @@
 -- Sums over the basis by even and odd halves.
-use Rattle.std.proofs.Common.{◌≡◌, ℕ, ◌+◌, ◌-◌, ◌*◌, ◌<◌, ◌≤◌, arith, ℤ, ◌+ℤ◌, ◌-ℤ◌, ◌*ℤ◌, lit<}
+use Rattle.std.proofs.Common.{◌≡◌, ℕ, ◌+◌, ◌-◌, ◌*◌, ◌<◌, ◌≤◌, arith, refl, ℤ, pos, ◌+ℤ◌, ◌-ℤ◌, ◌*ℤ◌, lit<}
 use Rattle.std.proofs.Math.Nat.{le_trans, le_refl}
 use Rattle.std.proofs.lemmas.Int.{ints}
 use Rattle.std.specs.Int.RustNames.{unsigned_abs}
@@ -47,28 +47,43 @@ even_sums f g r sums differences fourth second =
     let at_3 = second 1 (lit< tt) in
     below_four _ (omega (arith, ints)) (omega (arith, ints)) (omega (arith, ints)) (omega (arith, ints))
 
--- the even half by columns
-pub even_columns : (f z r : ℕ → ℤ) (a b c d : ℤ) → a ≡ f 0 → b ≡ f 2 → c ≡ f 1 → d ≡ f 3 →
+-- the even half by columns, its sums begun with a number
+pub even_columns_from : (start : ℤ) (f z y r : ℕ → ℤ) (a b c d : ℤ) → a ≡ f 0 → b ≡ f 2 → c ≡ f 1 → d ≡ f 3 →
     ((k : ℕ) → k < 2 → z (2 * k) ≡ basis (4 * k) 0 *ℤ a +ℤ basis (4 * k) 1 *ℤ b) →
     ((k : ℕ) → k < 2 → z (2 * k + 1) ≡ basis (4 * k + 2) 0 *ℤ c +ℤ basis (4 * k + 2) 1 *ℤ d) →
-    (r 0 ≡ z 0 +ℤ z 1) × (r 3 ≡ z 0 -ℤ z 1) → (r 1 ≡ z 2 +ℤ z 3) × (r 2 ≡ z 2 -ℤ z 3) →
-    (j : ℕ) → j < 4 → r j ≡ sum_to 4 (λ k. basis (2 * k) j *ℤ f k)
+    ((k : ℕ) → k < 2 → y (2 * k) ≡ start +ℤ z (2 * k)) → ((k : ℕ) → k < 2 → y (2 * k + 1) ≡ z (2 * k + 1)) →
+    (r 0 ≡ y 0 +ℤ y 1) × (r 3 ≡ y 0 -ℤ y 1) → (r 1 ≡ y 2 +ℤ y 3) × (r 2 ≡ y 2 -ℤ y 3) →
+    (j : ℕ) → j < 4 → r j ≡ start +ℤ sum_to 4 (λ k. basis (2 * k) j *ℤ f k)
 unfolding sum_to basis turn cosine
-even_columns f z r a b c d same_0 same_2 same_1 same_3 fourth second outer inner =
+even_columns_from start f z y r a b c d same_0 same_2 same_1 same_3 fourth second begun same outer inner =
+    let begun_0 = begun 0 (lit< tt) in
+    let begun_2 = begun 1 (lit< tt) in
+    let kept_1 = same 0 (lit< tt) in
+    let kept_3 = same 1 (lit< tt) in
     let at_0 = fourth 0 (lit< tt) in
     let at_1 = second 0 (lit< tt) in
     let at_2 = fourth 1 (lit< tt) in
     let at_3 = second 1 (lit< tt) in
     below_four _ (omega (arith, ints)) (omega (arith, ints)) (omega (arith, ints)) (omega (arith, ints))
 
--- all eight sums by columns: the halves added at the first four places and subtracted at their mirrored ones
-pub joined_halves : (f g h even odd r : ℕ → ℤ) → ((k : ℕ) → k < 4 → g k ≡ f (2 * k)) → ((k : ℕ) → k < 4 → h k ≡ f (2 * k + 1)) →
-    ((j : ℕ) → j < 4 → even j ≡ sum_to 4 (λ k. basis (2 * k) j *ℤ g k)) →
+-- the same sums, begun with nothing
+pub even_columns : (f z r : ℕ → ℤ) (a b c d : ℤ) → a ≡ f 0 → b ≡ f 2 → c ≡ f 1 → d ≡ f 3 →
+    ((k : ℕ) → k < 2 → z (2 * k) ≡ basis (4 * k) 0 *ℤ a +ℤ basis (4 * k) 1 *ℤ b) →
+    ((k : ℕ) → k < 2 → z (2 * k + 1) ≡ basis (4 * k + 2) 0 *ℤ c +ℤ basis (4 * k + 2) 1 *ℤ d) →
+    (r 0 ≡ z 0 +ℤ z 1) × (r 3 ≡ z 0 -ℤ z 1) → (r 1 ≡ z 2 +ℤ z 3) × (r 2 ≡ z 2 -ℤ z 3) →
+    (j : ℕ) → j < 4 → r j ≡ sum_to 4 (λ k. basis (2 * k) j *ℤ f k)
+even_columns f z r a b c d same_0 same_2 same_1 same_3 fourth second outer inner j lt =
+    let sum = even_columns_from (pos 0) f z z r a b c d same_0 same_2 same_1 same_3 fourth second (λ k p. omega (arith, ints)) (λ k p. refl) outer inner j lt in
+    omega (arith, ints)
+
+-- all eight sums by columns, begun with a number: the halves added at the first four places and subtracted at their mirrored ones
+pub joined_halves_from : (start : ℤ) (f g h even odd r : ℕ → ℤ) → ((k : ℕ) → k < 4 → g k ≡ f (2 * k)) → ((k : ℕ) → k < 4 → h k ≡ f (2 * k + 1)) →
+    ((j : ℕ) → j < 4 → even j ≡ start +ℤ sum_to 4 (λ k. basis (2 * k) j *ℤ g k)) →
     ((j : ℕ) → j < 4 → odd j ≡ sum_to 4 (λ k. basis (2 * j + 1) k *ℤ h k)) →
     ((j : ℕ) → j < 4 → r j ≡ even j +ℤ odd j) → ((j : ℕ) → j < 4 → r (7 - j) ≡ even j -ℤ odd j) →
-    (j : ℕ) → j < 8 → r j ≡ sum_to 8 (λ k. basis k j *ℤ f k)
+    (j : ℕ) → j < 8 → r j ≡ start +ℤ sum_to 8 (λ k. basis k j *ℤ f k)
 unfolding sum_to basis turn cosine
-joined_halves f g h even odd r evens odds even_sum odd_sum first last =
+joined_halves_from start f g h even odd r evens odds even_sum odd_sum first last =
     let g_0 = evens 0 (lit< tt) in let g_1 = evens 1 (lit< tt) in let g_2 = evens 2 (lit< tt) in let g_3 = evens 3 (lit< tt) in
     let h_0 = odds 0 (lit< tt) in let h_1 = odds 1 (lit< tt) in let h_2 = odds 2 (lit< tt) in let h_3 = odds 3 (lit< tt) in
     below_eight _
@@ -80,6 +95,16 @@ joined_halves f g h even odd r evens odds even_sum odd_sum first last =
     (let e = even_sum 2 (lit< tt) in let o = odd_sum 2 (lit< tt) in let s = last 2 (lit< tt) in omega (arith, ints))
     (let e = even_sum 1 (lit< tt) in let o = odd_sum 1 (lit< tt) in let s = last 1 (lit< tt) in omega (arith, ints))
     (let e = even_sum 0 (lit< tt) in let o = odd_sum 0 (lit< tt) in let s = last 0 (lit< tt) in omega (arith, ints))
+
+-- the same sums, begun with nothing
+pub joined_halves : (f g h even odd r : ℕ → ℤ) → ((k : ℕ) → k < 4 → g k ≡ f (2 * k)) → ((k : ℕ) → k < 4 → h k ≡ f (2 * k + 1)) →
+    ((j : ℕ) → j < 4 → even j ≡ sum_to 4 (λ k. basis (2 * k) j *ℤ g k)) →
+    ((j : ℕ) → j < 4 → odd j ≡ sum_to 4 (λ k. basis (2 * j + 1) k *ℤ h k)) →
+    ((j : ℕ) → j < 4 → r j ≡ even j +ℤ odd j) → ((j : ℕ) → j < 4 → r (7 - j) ≡ even j -ℤ odd j) →
+    (j : ℕ) → j < 8 → r j ≡ sum_to 8 (λ k. basis k j *ℤ f k)
+joined_halves f g h even odd r evens odds even_sum odd_sum first last j lt =
+    let sum = joined_halves_from (pos 0) f g h even odd r evens odds (λ k p. let part = even_sum k p in omega (arith, ints)) odd_sum first last j lt in
+    omega (arith, ints)
 
 -- the size of a sum over a basis number
 pub basis_small : (m : ℕ) (f : ℕ → ℤ) → ((j : ℕ) → j < 8 → unsigned_abs (f j) ≤ m) → (k : ℕ) → k < 8 → unsigned_abs (sum_to 8 (λ j. basis k j *ℤ f j)) ≤ m * 46344

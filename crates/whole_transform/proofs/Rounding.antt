@@ -1,12 +1,13 @@
 -- From sums to samples.
-use Rattle.std.proofs.Common.{◌≡◌, ℕ, ◌+◌, ◌*◌, ◌/◌, ◌%◌, ◌^◌, ◌<◌, ◌≤◌, refl, arith, ℤ, pos, negsuc, ◌+ℤ◌, subst, sym, lit≤, List, length, slice_index, ⊎_elim, ◌-ℤ◌, ◌*ℤ◌, ◌≤ℤ◌, ◌<ℤ◌, ap, ◌∙◌, w32, FitsSigned}
+use Rattle.std.proofs.Common.{◌≡◌, ℕ, ◌+◌, ◌*◌, ◌/◌, ◌%◌, ◌^◌, ◌<◌, ◌≤◌, refl, arith, ℤ, pos, negsuc, ◌+ℤ◌, subst, sym, lit≤, List, length, slice_index, ⊎_elim, ◌-ℤ◌, ◌*ℤ◌, ◌≤ℤ◌, ◌<ℤ◌, ap, ◌∙◌, w16, w32, FitsSigned}
 use Rattle.std.proofs.lemmas.Int.{ints, clamps, fits_signed_from_abs}
 use Rattle.std.specs.Int.RustNames.{unsigned_abs}
 use Rattle.std.specs.Int.Signed.{shr_z}
 use Rattle.std.specs.Int.{int_max, int_min}
 use Rattle.std.proofs.lemmas.List.{get_or_past}
 use Rattle.std.proofs.lemmas.Bool.{cases_lt}
-use Rattle.whole_transform.specs.Transform.{clamped, floored, sample}
+use Rattle.whole_transform.specs.Sums.{at}
+use Rattle.whole_transform.specs.Transform.{clamped, floored, lane_cell, sample}
 
 pub clamped_is : (z raised lowered : ℤ) → raised ≡ int_max z (pos 4) → lowered ≡ int_min raised (pos 1019) → unsigned_abs lowered ≡ clamped z
 unfolding clamped
@@ -58,17 +59,23 @@ floored_30 (negsuc n) = (omega (arith, ints), omega (arith, ints))
 
 -- rounding down once or twice is the same, and what is added before is added after
 pub floored_twice : (a b : ℤ) →
-    floored (a +ℤ (floored (b +ℤ pos 0) (2 ^ 16) +ℤ pos 8396800)) (2 ^ 14) ≡ pos 512 +ℤ floored ((pos 65536 *ℤ a +ℤ b) +ℤ pos (2 ^ 29)) (2 ^ 30)
+    floored (a +ℤ (floored (b +ℤ pos 0) (2 ^ 16) +ℤ pos (2 ^ 23 + 2 ^ 13))) (2 ^ 14) ≡ pos 512 +ℤ floored ((pos 65536 *ℤ a +ℤ b) +ℤ pos (2 ^ 29)) (2 ^ 30)
 floored_twice a b =
     let inner = floored_16 (b +ℤ pos 0) in
-    let outer = floored_14 (a +ℤ (floored (b +ℤ pos 0) (2 ^ 16) +ℤ pos 8396800)) in
+    let outer = floored_14 (a +ℤ (floored (b +ℤ pos 0) (2 ^ 16) +ℤ pos (2 ^ 23 + 2 ^ 13))) in
     let whole = floored_30 ((pos 65536 *ℤ a +ℤ b) +ℤ pos (2 ^ 29)) in
     omega (arith, ints)
+
+-- a number from -2 ^ 15 up to 2 ^ 15 has 16 bits
+pub short_of : (z : ℤ) → pos 0 ≤ℤ (z +ℤ pos 32768) → (z +ℤ pos 32768) <ℤ pos 65536 → FitsSigned w16 z
+short_of (pos n) least most = record { sfits = omega (arith, ints) }
+short_of (negsuc n) least most = record { sfits = omega (arith, ints) }
 
 -- a number in two halves
 pub record Halves (value upper : ℤ) : Type 0 where
   pub product_fits : FitsSigned w32 (pos 65536 *ℤ upper)
   pub low_fits : FitsSigned w32 (value -ℤ pos 65536 *ℤ upper)
+  pub low_is_short : FitsSigned w16 (value -ℤ pos 65536 *ℤ upper)
   pub whole : value ≡ pos 65536 *ℤ upper +ℤ (value -ℤ pos 65536 *ℤ upper)
   pub high : unsigned_abs upper ≤ 21643
   pub low : unsigned_abs (value -ℤ pos 65536 *ℤ upper) ≤ 2 ^ 15
@@ -79,27 +86,43 @@ halves_of value upper small e =
     record {
       product_fits = fits_signed_from_abs w32 _ (omega (arith, ints));
       low_fits = fits_signed_from_abs w32 _ (omega (arith, ints));
+      low_is_short = short_of _ (omega (arith, ints)) (omega (arith, ints));
       whole = omega (arith, ints);
       high = omega (arith, ints);
       low = omega (arith, ints);
     }
 
--- the sample of a sum in two halves
+-- the sample of a sum in two halves, the upper with one half and 512 besides
 pub joined_sample_is : (high low carried shifted : ℤ) (result : ℕ) → carried ≡ floored (low +ℤ pos 0) (2 ^ 16) →
-    shifted ≡ floored (high +ℤ (carried +ℤ pos 8396800)) (2 ^ 14) → result ≡ clamped shifted → result ≡ sample (pos 65536 *ℤ high +ℤ low)
+    shifted ≡ floored (high +ℤ carried) (2 ^ 14) → result ≡ clamped shifted → result ≡ sample (pos 65536 *ℤ (high -ℤ pos (2 ^ 23 + 2 ^ 13)) +ℤ low)
 unfolding sample
 joined_sample_is high low carried shifted result below above e =
-    e ∙ ap clamped (above ∙ ap (λ (z : ℤ). floored (high +ℤ (z +ℤ pos 8396800)) (2 ^ 14)) below ∙ floored_twice high low)
+    let parts : high +ℤ carried ≡ (high -ℤ pos (2 ^ 23 + 2 ^ 13)) +ℤ (floored (low +ℤ pos 0) (2 ^ 16) +ℤ pos (2 ^ 23 + 2 ^ 13)) = omega (arith, ints, below) in
+    e ∙ ap clamped (above ∙ ap (λ (z : ℤ). floored z (2 ^ 14)) parts ∙ floored_twice (high -ℤ pos (2 ^ 23 + 2 ^ 13)) low)
 
 -- what a lower half carries
 pub carried_small : (low : ℤ) → unsigned_abs low ≤ 2 ^ 15 * 43284 → unsigned_abs (floored (low +ℤ pos 0) (2 ^ 16)) ≤ 2 ^ 15
 carried_small low small = let bounds = floored_16 (low +ℤ pos 0) in omega (arith, ints)
 
--- the same of eight blocks side by side
-pub all_lanes_in_range : (out : List ℕ) → length out ≡ 512 → ((b y x : ℕ) → b < 8 → y < 8 → x < 8 → slice_index out (64 * y + (8 * x + b)) ≤ 1019) →
-    (k : ℕ) → slice_index out k ≤ 1019
-all_lanes_in_range out long cells k = ⊎_elim
-    (λ (lt : k < 512). let e : 64 * (k / 64) + (8 * (k % 64 / 8) + k % 64 % 8) ≡ k = omega arith in
-    subst (λ (i : ℕ). slice_index out i ≤ 1019) e (cells (k % 64 % 8) (k / 64) (k % 64 / 8) (omega arith) (omega arith) (omega arith)))
-    (λ (past : 512 ≤ k). subst (λ (v : ℕ). v ≤ 1019) (sym (get_or_past out k 0 (omega arith))) (lit≤ tt))
-    (cases_lt k 512)
+-- a sample is at least 4
+pub clamped_least : (z : ℤ) → 4 ≤ clamped z
+unfolding clamped
+clamped_least (pos n) = omega arith
+clamped_least (negsuc n) = lit≤ tt
+
+pub sample_least : (z : ℤ) → 4 ≤ sample z
+unfolding sample
+sample_least z = clamped_least (pos 512 +ℤ floored (z +ℤ pos (2 ^ 29)) (2 ^ 30))
+
+-- the same of eight blocks side by side, whose samples stand as numbers with a sign
+pub all_lanes_in_range : (samples : List ℤ) (sums : ℕ → ℕ → ℕ → ℤ) →
+    ((b y x : ℕ) → b < 8 → y < 8 → x < 8 → lane_cell samples b y x ≡ pos (sample (sums b y x))) →
+    (k : ℕ) → k < 512 → (pos 4 ≤ℤ at samples k) × (at samples k ≤ℤ pos 1019)
+all_lanes_in_range samples sums cells k lt =
+    let e : 64 * (k / 64) + (8 * (k % 64 / 8) + k % 64 % 8) ≡ k = omega arith in
+    subst (λ (i : ℕ). (pos 4 ≤ℤ at samples i) × (at samples i ≤ℤ pos 1019)) e
+    (let total = sums (k % 64 % 8) (k / 64) (k % 64 / 8) in
+    let same = cells (k % 64 % 8) (k / 64) (k % 64 / 8) (omega arith) (omega arith) (omega arith) in
+    let least = sample_least total in
+    let most = sample_range total in
+    subst (λ (z : ℤ). (pos 4 ≤ℤ z) × (z ≤ℤ pos 1019)) (sym same) (omega (arith, ints), omega (arith, ints)))

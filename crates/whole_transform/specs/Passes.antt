@@ -1,5 +1,5 @@
 -- Eight numbers and the basis: what one step of a pass over columns or rows gives (own).
-use Rattle.std.specs.Prelude.{ℕ, ◌+◌, ◌*◌, ℤ, ◌*ℤ◌, List, slice_index}
+use Rattle.std.specs.Prelude.{ℕ, ◌+◌, ◌*◌, ℤ, ◌*ℤ◌, List}
 use Rattle.whole_transform.specs.Sums.{sum_to, at}
 use Rattle.whole_transform.specs.Transform.{basis}
 
@@ -14,7 +14,3 @@ inverse_of values j = sum_to 8 (λ k. basis k j *ℤ values k)
 -- the number in a row of eight blocks that stand side by side
 abbrev pub lane_at : List ℤ → ℕ → ℕ → ℤ
 lane_at blocks row j = at blocks (64 * row + j)
-
--- the sample in such a row
-abbrev pub lane_sample : List ℕ → ℕ → ℕ → ℕ
-lane_sample blocks row j = slice_index blocks (64 * row + j)

@@ -61,6 +61,6 @@ abbrev pub IsInverse : List ℤ → List ℕ → Type 0
 IsInverse products out = (y x : ℕ) → y < 8 → x < 8 → slice_index out (8 * y + x) ≡ sample (inverse_sum (cell products) y x)
 
 -- the same of each of eight blocks
-abbrev pub IsInverseOfEach : List ℤ → List ℕ → Type 0
-IsInverseOfEach products out =
-    (b y x : ℕ) → b < 8 → y < 8 → x < 8 → slice_index out (64 * y + (8 * x + b)) ≡ sample (inverse_sum (lane_cell products b) y x)
+abbrev pub IsInverseOfEach : List ℤ → List ℤ → Type 0
+IsInverseOfEach products samples =
+    (b y x : ℕ) → b < 8 → y < 8 → x < 8 → lane_cell samples b y x ≡ pos (sample (inverse_sum (lane_cell products b) y x))

@@ -1,5 +1,5 @@
-//! From products to samples: all in 32 bits where no product is above 2^15 in size, as in nearly every block, else in
-//! 64.
+//! From products to samples: all in 32 bits where every product is below 2^15 in size, as in nearly every block, else
+//! in 64.
 
 ghost use Rattle.std.specs.Prelude.{◌≡◌, ◌≢◌, ◌≤◌, ◌<◌, ◌+◌, ◌*◌, ◌^◌, ℕ, slice_index};
 ghost use Rattle.std.specs.Int.RustNames.{unsigned_abs};
@@ -18,7 +18,7 @@ pub fn inverse(products: &[i32; 64], out: &mut [u16; 64])
     ensures samples { IsInverse products.now out.new }
     ensures range { (k : ℕ) → slice_index out.new k ≤ 1019 }
 {
-    if greatest_size(products) <= 1 << 15 {
+    if greatest_size(products) < 1 << 15 {
         inverse_short(products, out);
     } else {
         inverse_wide(products, out);
@@ -37,10 +37,10 @@ fn greatest_size(products: &[i32; 64]) -> u32
     greatest
 }
 
-/// Transforms a block of products up to 2^15 in size.
+/// Transforms a block of products below 2^15 in size.
 #[inline(always)]
 fn inverse_short(products: &[i32; 64], out: &mut [u16; 64])
-    requires sizes { (k : ℕ) → unsigned_abs (at products.now k) ≤ 2 ^ 15 }
+    requires sizes { (k : ℕ) → unsigned_abs (at products.now k) < 2 ^ 15 }
     ensures samples { IsInverse products.now out.new }
     ensures range { (k : ℕ) → slice_index out.new k ≤ 1019 }
 {
@@ -54,7 +54,7 @@ fn inverse_short(products: &[i32; 64], out: &mut [u16; 64])
 /// Transforms each column.
 #[inline(always)]
 fn short_columns(products: &[i32; 64], columns: &mut [i32; 64])
-    requires { (k : ℕ) → unsigned_abs (at products.now k) ≤ 2 ^ 15 }
+    requires { (k : ℕ) → unsigned_abs (at products.now k) < 2 ^ 15 }
     ensures sums { (y u : ℕ) → y < 8 → u < 8 → cell columns.new y u ≡ inverse_of (λ v. cell products.now v u) y }
     ensures small { (y u : ℕ) → y < 8 → u < 8 → unsigned_abs (cell columns.new y u) ≤ 2 ^ 15 * 43284 }
 {

@@ -36,7 +36,7 @@ fn forward_columns(block: &[u16; 64], columns: &mut [i32; 64])
 
 /// The samples of a column, less 512.
 #[inline(always)]
-fn column_of(block: &[u16; 64], column: usize) -> [i32; 8]
+fn column_of(block: &[u16; 64], column: usize) -> [i16; 8]
     requires place { column < 8 }
     requires samples { (k : ℕ) → slice_index block.now k < 1024 }
     ensures values { (y : ℕ) → y < 8 → at result y ≡ centred block.now y column }
@@ -56,10 +56,10 @@ fn column_of(block: &[u16; 64], column: usize) -> [i32; 8]
 
 /// A sample less 512.
 #[inline(always)]
-fn less_512(sample: u16) -> i32
+fn less_512(sample: u16) -> i16
     requires { sample < 1024 }
     ensures value { result ≡ pos sample -ℤ pos 512 }
     ensures small { unsigned_abs result ≤ 512 }
 {
-    i32::from(sample) - 512
+    sample as i16 - 512
 }

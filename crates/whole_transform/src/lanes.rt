@@ -1,9 +1,9 @@
 //! Eight blocks at once, all in 32 bits. Their numbers stand side by side, eight of each place, so that each statement
-//! is one over eight blocks.
+//! is one over eight blocks. The sums of the columns stand where the samples come, so no other room is cleared or lent.
 
-ghost use Rattle.std.specs.Prelude.{◌≡◌, ◌≢◌, ◌≤◌, ◌<◌, ◌+◌, ◌*◌, ◌^◌, ℕ, pos, ◌+ℤ◌, ◌*ℤ◌, slice_index};
+ghost use Rattle.std.specs.Prelude.{◌≡◌, ◌≢◌, ◌≤◌, ◌<◌, ◌+◌, ◌*◌, ◌^◌, ℕ, pos, ◌+ℤ◌, ◌-ℤ◌, ◌*ℤ◌, ◌≤ℤ◌, slice_index};
 ghost use Rattle.std.specs.Int.RustNames.{unsigned_abs};
-ghost use Rattle.whole_transform.specs.Passes.{inverse_of, lane_at, lane_sample};
+ghost use Rattle.whole_transform.specs.Passes.{inverse_of, lane_at};
 ghost use Rattle.whole_transform.specs.Sums.{at};
 ghost use Rattle.whole_transform.specs.Transform.{IsInverseOfEach, floored, lane_cell, sample};
 
@@ -13,17 +13,14 @@ use crate::samples::clamped_sample;
 /// One half, which rounds, and 512, both over 2^14.
 const HALF_AND_MIDDLE: i32 = (1 << 13) + (512 << 14);
 
-/// Transforms eight blocks of products of 16 bits into their samples: the number of block `b` at a row and a column
-/// stands at `64 * row + 8 * column + b`, in `products` as in `out`.
-pub fn inverse_lanes(products: &[i16; 512], out: &mut [u16; 512])
-    ensures samples { IsInverseOfEach products.now out.new }
-    ensures range { (k : ℕ) → slice_index out.new k ≤ 1019 }
+/// Transforms eight blocks of products of 16 bits into their samples, 4 to 1019: the number of block `b` at a row and a
+/// column stands at `64 * row + 8 * column + b`, in `products` as in `samples`.
+pub fn inverse_lanes(products: &[i16; 512], samples: &mut [i32; 512])
+    ensures samples { IsInverseOfEach products.now samples.new }
+    ensures range { (k : ℕ) → k < 512 → (pos 4 ≤ℤ at samples.new k) × (at samples.new k ≤ℤ pos 1019) }
 {
-    let mut columns = [0i32; 512];
-    lane_columns(products, &mut columns);
-    for y in 0..8 {
-        put_lane_row(&columns, y, out);
-    }
+    lane_columns(products, samples);
+    lane_rows(samples);
 }
 
 /// Transforms each column of each block.
@@ -72,55 +69,62 @@ fn put_lane_column(columns: &mut [i32; 512], column: usize, values: [i32; 8])
     }
 }
 
-/// Transforms a row of each block and writes its samples.
+/// Transforms each row of each block into its samples.
 #[inline(always)]
-fn put_lane_row(columns: &[i32; 512], row: usize, out: &mut [u16; 512])
+fn lane_rows(blocks: &mut [i32; 512])
+    requires { (y j : ℕ) → y < 8 → j < 64 → unsigned_abs (lane_at blocks.now y j) ≤ 2 ^ 15 * 43284 }
+    ensures { (b y x : ℕ) → b < 8 → y < 8 → x < 8 →
+        lane_cell blocks.new b y x ≡ pos (sample (inverse_of (lane_cell blocks.old b y) x)) }
+{
+    for y in 0..8 {
+        lane_row(blocks, y);
+    }
+}
+
+/// Transforms a row of each block into its samples.
+#[inline(always)]
+fn lane_row(blocks: &mut [i32; 512], row: usize)
     requires place { row < 8 }
-    requires small { (y j : ℕ) → y < 8 → j < 64 → unsigned_abs (lane_at columns.now y j) ≤ 2 ^ 15 * 43284 }
+    requires small { (j : ℕ) → j < 64 → unsigned_abs (lane_at blocks.now row j) ≤ 2 ^ 15 * 43284 }
     ensures samples { (b x : ℕ) → b < 8 → x < 8 →
-        lane_sample out.new row (8 * x + b) ≡ sample (inverse_of (lane_cell columns.now b row) x) }
-    ensures kept { (y j : ℕ) → j < 64 → y ≢ row → lane_sample out.new y j ≡ lane_sample out.old y j }
+        lane_cell blocks.new b row x ≡ pos (sample (inverse_of (lane_cell blocks.old b row) x)) }
+    ensures kept { (y j : ℕ) → j < 64 → y ≢ row → lane_at blocks.new y j ≡ lane_at blocks.old y j }
 {
     for lane in 0..8 {
-        put_lane_samples(
-            out,
-            row,
-            lane,
-            samples_of_sums(lane_row_of(columns, row, lane)),
-        );
+        let samples = samples_of_sums(lane_row_of(blocks, row, lane));
+        put_lane_samples(blocks, row, lane, samples);
     }
 }
 
 /// The values of a row of one block.
 #[inline(always)]
-fn lane_row_of(columns: &[i32; 512], row: usize, lane: usize) -> [i32; 8]
+fn lane_row_of(blocks: &[i32; 512], row: usize, lane: usize) -> [i32; 8]
     requires place { (row < 8) × (lane < 8) }
-    ensures { (u : ℕ) → u < 8 → at result u ≡ lane_cell columns.now lane row u }
+    ensures { (u : ℕ) → u < 8 → at result u ≡ lane_cell blocks.now lane row u }
 {
     let start = 64 * row + lane;
     [
-        columns[start],
-        columns[start + 8],
-        columns[start + 16],
-        columns[start + 24],
-        columns[start + 32],
-        columns[start + 40],
-        columns[start + 48],
-        columns[start + 56],
+        blocks[start],
+        blocks[start + 8],
+        blocks[start + 16],
+        blocks[start + 24],
+        blocks[start + 32],
+        blocks[start + 40],
+        blocks[start + 48],
+        blocks[start + 56],
     ]
 }
 
-/// Writes a row of one block.
+/// Writes a row of samples of one block.
 #[inline(always)]
-fn put_lane_samples(out: &mut [u16; 512], row: usize, lane: usize, values: [u16; 8])
+fn put_lane_samples(blocks: &mut [i32; 512], row: usize, lane: usize, values: [u16; 8])
     requires place { (row < 8) × (lane < 8) }
-    ensures placed { (x : ℕ) → x < 8 → lane_sample out.new row (8 * x + lane) ≡ slice_index values x }
-    ensures lanes { (b x : ℕ) → b < 8 → x < 8 → b ≢ lane →
-        lane_sample out.new row (8 * x + b) ≡ lane_sample out.old row (8 * x + b) }
-    ensures rows { (y j : ℕ) → j < 64 → y ≢ row → lane_sample out.new y j ≡ lane_sample out.old y j }
+    ensures placed { (x : ℕ) → x < 8 → lane_cell blocks.new lane row x ≡ pos (slice_index values x) }
+    ensures lanes { (b x : ℕ) → b < 8 → x < 8 → b ≢ lane → lane_cell blocks.new b row x ≡ lane_cell blocks.old b row x }
+    ensures rows { (y j : ℕ) → j < 64 → y ≢ row → lane_at blocks.new y j ≡ lane_at blocks.old y j }
 {
     for x in 0..8 {
-        out[64 * row + (8 * x + lane)] = values[x];
+        blocks[64 * row + (8 * x + lane)] = i32::from(values[x]);
     }
 }
 
@@ -131,15 +135,18 @@ pub fn samples_of_sums(values: [i32; 8]) -> [u16; 8]
     ensures { (x : ℕ) → x < 8 → slice_index result x ≡ sample (inverse_of (at values) x) }
 {
     let (high, low) = split(values);
-    joined_samples(narrow::inverse_eight(high), narrow::inverse_eight(low))
+    joined_samples(
+        narrow::inverse_eight_from(HALF_AND_MIDDLE, high),
+        narrow::inverse_eight(low),
+    )
 }
 
-/// The samples of sums that are given by their halves' sums.
+/// The samples of sums that are given by their halves' sums. Those of the upper halves have one half and 512 besides.
 #[inline(always)]
 fn joined_samples(high: [i32; 8], low: [i32; 8]) -> [u16; 8]
-    requires high { (x : ℕ) → x < 8 → unsigned_abs (at high x) ≤ 21643 * 43284 }
+    requires high { (x : ℕ) → x < 8 → unsigned_abs (at high x) ≤ 21643 * 43284 + (2 ^ 23 + 2 ^ 13) }
     requires low { (x : ℕ) → x < 8 → unsigned_abs (at low x) ≤ 2 ^ 15 * 43284 }
-    ensures { (x : ℕ) → x < 8 → slice_index result x ≡ sample (pos 65536 *ℤ at high x +ℤ at low x) }
+    ensures { (x : ℕ) → x < 8 → slice_index result x ≡ sample (pos 65536 *ℤ (at high x -ℤ pos (2 ^ 23 + 2 ^ 13)) +ℤ at low x) }
 {
     let [a, b, c, d, e, f, g, h] = high;
     let [i, j, k, l, m, n, o, p] = low;
@@ -175,7 +182,7 @@ fn split(values: [i32; 8]) -> ([i32; 8], [i32; 8])
     ([a, b, c, d, e, f, g, h], [i, j, k, l, m, n, o, p])
 }
 
-/// One value in two.
+/// One value in two. Both have 16 bits, of which the compiler is told by the cast.
 #[inline(always)]
 fn halves(value: i32) -> (i32, i32)
     requires { unsigned_abs value ≤ 2 ^ 15 * 43284 }
@@ -184,18 +191,18 @@ fn halves(value: i32) -> (i32, i32)
     ensures low { unsigned_abs result.1 ≤ 2 ^ 15 }
 {
     let high = shifted_sum(value, 32768, 16);
-    (high, value - 65536 * high)
+    (high, i32::from((value - 65536 * high) as i16))
 }
 
-/// The sample of a sum that is given by its halves' sums.
+/// The sample of a sum that is given by its halves' sums, that of the upper ones with one half and 512 besides.
 #[inline(always)]
 fn joined_sample(high: i32, low: i32) -> u16
-    requires high { unsigned_abs high ≤ 21643 * 43284 }
+    requires high { unsigned_abs high ≤ 21643 * 43284 + (2 ^ 23 + 2 ^ 13) }
     requires low { unsigned_abs low ≤ 2 ^ 15 * 43284 }
-    ensures { result ≡ sample (pos 65536 *ℤ high +ℤ low) }
+    ensures { result ≡ sample (pos 65536 *ℤ (high -ℤ pos (2 ^ 23 + 2 ^ 13)) +ℤ low) }
 {
     let carried = shifted_sum(low, 0, 16);
-    clamped_sample(shifted_sum(high, carried + HALF_AND_MIDDLE, 14))
+    clamped_sample(shifted_sum(high, carried, 14))
 }
 
 /// A sum over a power of two, rounded down.

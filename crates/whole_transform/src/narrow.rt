@@ -1,4 +1,5 @@
-//! Eight values and the eight basis numbers in 32 bits, by even and odd halves: 22 products for eight sums.
+//! Eight values and the eight basis numbers in 32 bits, by even and odd halves: 22 products for eight sums. What is
+//! multiplied has 16 bits wherever the code shows it, since a product of 16 bits by 16 costs half of one of 32.
 
 ghost use Rattle.std.specs.Prelude.{◌≡◌, ◌≤◌, ◌<◌, ◌+◌, ◌-◌, ◌*◌, ◌^◌, ℕ, ℤ, pos, ◌+ℤ◌, ◌-ℤ◌, ◌*ℤ◌};
 ghost use Rattle.std.specs.Int.RustNames.{unsigned_abs};
@@ -8,13 +9,13 @@ ghost use Rattle.whole_transform.specs.Transform.{basis};
 
 /// The sums of eight values with each basis number.
 #[inline(always)]
-pub fn forward_eight(x: [i32; 8]) -> [i32; 8]
-    requires { (k : ℕ) → k < 8 → unsigned_abs (at x k) ≤ 2 ^ 13 }
+pub fn forward_eight(x: [i16; 8]) -> [i32; 8]
+    requires { (k : ℕ) → k < 8 → unsigned_abs (at x k) ≤ 2 ^ 12 }
     ensures { (k : ℕ) → k < 8 → at result k ≡ forward_of (at x) k }
 {
     let (sums, differences) = mirrored(x);
     let [zeroth, second, fourth, sixth] = even_half(sums);
-    let [first, third, fifth, seventh] = odd_half(differences);
+    let [first, third, fifth, seventh] = odd_half(widened(differences));
     [zeroth, first, second, third, fourth, fifth, sixth, seventh]
 }
 
@@ -24,16 +25,26 @@ pub fn inverse_eight(x: [i32; 8]) -> [i32; 8]
     requires { (k : ℕ) → k < 8 → unsigned_abs (at x k) ≤ 2 ^ 15 }
     ensures { (j : ℕ) → j < 8 → at result j ≡ inverse_of (at x) j }
 {
+    inverse_eight_from(0, x)
+}
+
+/// The same sums, each begun with a number. It is added to two products, where the eight sums would take it eight times.
+#[inline(always)]
+pub fn inverse_eight_from(start: i32, x: [i32; 8]) -> [i32; 8]
+    requires start { unsigned_abs start ≤ 2 ^ 23 + 2 ^ 13 }
+    requires values { (k : ℕ) → k < 8 → unsigned_abs (at x k) ≤ 2 ^ 15 }
+    ensures { (j : ℕ) → j < 8 → at result j ≡ start +ℤ inverse_of (at x) j }
+{
     let [zeroth, first, second, third, fourth, fifth, sixth, seventh] = x;
-    let even = inverse_even([zeroth, second, fourth, sixth]);
+    let even = inverse_even(start, [zeroth, second, fourth, sixth]);
     let odd = odd_half([first, third, fifth, seventh]);
     unmirrored(even, odd)
 }
 
 /// The sums of the first and the last value, then of the second and the last but one, and the differences likewise.
 #[inline(always)]
-fn mirrored(x: [i32; 8]) -> ([i32; 4], [i32; 4])
-    requires { (k : ℕ) → k < 8 → unsigned_abs (at x k) ≤ 2 ^ 13 }
+fn mirrored(x: [i16; 8]) -> ([i16; 4], [i16; 4])
+    requires { (k : ℕ) → k < 8 → unsigned_abs (at x k) ≤ 2 ^ 12 }
     ensures sums { (k : ℕ) → k < 4 → at result.0 k ≡ at x k +ℤ at x (7 - k) }
     ensures differences { (k : ℕ) → k < 4 → at result.1 k ≡ at x k -ℤ at x (7 - k) }
 {
@@ -44,7 +55,7 @@ fn mirrored(x: [i32; 8]) -> ([i32; 4], [i32; 4])
 /// Four sums, then four differences from the last to the first.
 #[inline(always)]
 fn unmirrored(even: [i32; 4], odd: [i32; 4]) -> [i32; 8]
-    requires even { (k : ℕ) → k < 4 → unsigned_abs (at even k) ≤ 4 * (8035 * 2 ^ 15) }
+    requires even { (k : ℕ) → k < 4 → unsigned_abs (at even k) ≤ 4 * (8035 * 2 ^ 15) + (2 ^ 24 + 2 ^ 14) }
     requires odd { (k : ℕ) → k < 4 → unsigned_abs (at odd k) ≤ 4 * (8035 * 2 ^ 15) }
     ensures first { (k : ℕ) → k < 4 → at result k ≡ at even k +ℤ at odd k }
     ensures last { (k : ℕ) → k < 4 → at result (7 - k) ≡ at even k -ℤ at odd k }
@@ -56,35 +67,46 @@ fn unmirrored(even: [i32; 4], odd: [i32; 4]) -> [i32; 8]
 
 /// The even basis numbers at the first four places with four values.
 #[inline(always)]
-fn even_half(x: [i32; 4]) -> [i32; 4]
-    requires { (k : ℕ) → k < 4 → unsigned_abs (at x k) ≤ 2 ^ 14 }
+fn even_half(x: [i16; 4]) -> [i32; 4]
+    requires { (k : ℕ) → k < 4 → unsigned_abs (at x k) ≤ 2 ^ 13 }
     ensures sums { (k : ℕ) → k < 4 → at result k ≡ sum_to 4 (λ j. basis (2 * k) j *ℤ at x j) }
     ensures small { (k : ℕ) → k < 4 → unsigned_abs (at result k) ≤ 2 * (8035 * 2 ^ 15) }
 {
-    even_products(folded(x))
+    even_products(widened(folded(x)))
 }
 
-/// The same by columns: the basis numbers at each of the four places with the four values of the even ones.
+/// The same by columns: the basis numbers at each of the four places with the four values of the even ones, each sum
+/// begun with a number.
 #[inline(always)]
-fn inverse_even(x: [i32; 4]) -> [i32; 4]
-    requires { (k : ℕ) → k < 4 → unsigned_abs (at x k) ≤ 2 ^ 15 }
-    ensures sums { (j : ℕ) → j < 4 → at result j ≡ sum_to 4 (λ k. basis (2 * k) j *ℤ at x k) }
-    ensures small { (j : ℕ) → j < 4 → unsigned_abs (at result j) ≤ 4 * (8035 * 2 ^ 15) }
+fn inverse_even(start: i32, x: [i32; 4]) -> [i32; 4]
+    requires start { unsigned_abs start ≤ 2 ^ 23 + 2 ^ 13 }
+    requires values { (k : ℕ) → k < 4 → unsigned_abs (at x k) ≤ 2 ^ 15 }
+    ensures sums { (j : ℕ) → j < 4 → at result j ≡ start +ℤ sum_to 4 (λ k. basis (2 * k) j *ℤ at x k) }
+    ensures small { (j : ℕ) → j < 4 → unsigned_abs (at result j) ≤ 4 * (8035 * 2 ^ 15) + (2 ^ 24 + 2 ^ 14) }
 {
     let [zeroth, second, fourth, sixth] = x;
-    crossed(even_products([zeroth, fourth, second, sixth]))
+    crossed(begun(start, even_products([zeroth, fourth, second, sixth])))
 }
 
 /// Two sums of mirrored values, then their differences.
 #[inline(always)]
-fn folded(x: [i32; 4]) -> [i32; 4]
-    requires { (k : ℕ) → k < 4 → unsigned_abs (at x k) ≤ 2 ^ 14 }
+fn folded(x: [i16; 4]) -> [i16; 4]
+    requires { (k : ℕ) → k < 4 → unsigned_abs (at x k) ≤ 2 ^ 13 }
     ensures sums { (k : ℕ) → k < 2 → at result k ≡ at x k +ℤ at x (3 - k) }
     ensures differences { (k : ℕ) → k < 2 → at result (2 + k) ≡ at x k -ℤ at x (3 - k) }
-    ensures small { (k : ℕ) → k < 4 → unsigned_abs (at result k) ≤ 2 ^ 15 }
 {
     let [a, b, c, d] = x;
     [a + d, b + c, a - d, b - c]
+}
+
+/// Four numbers of 16 bits in 32. The compiler then multiplies 16 bits by 16.
+#[inline(always)]
+fn widened(x: [i16; 4]) -> [i32; 4]
+    ensures same { (k : ℕ) → k < 4 → at result k ≡ at x k }
+    ensures small { (k : ℕ) → k < 4 → unsigned_abs (at result k) ≤ 2 ^ 15 }
+{
+    let [a, b, c, d] = x;
+    [i32::from(a), i32::from(b), i32::from(c), i32::from(d)]
 }
 
 /// The products of the even basis numbers at the first two places.
@@ -105,13 +127,26 @@ fn even_products(x: [i32; 4]) -> [i32; 4]
     ]
 }
 
+/// The products of the even half, a number added to those that are added to others.
+#[inline(always)]
+fn begun(start: i32, x: [i32; 4]) -> [i32; 4]
+    requires start { unsigned_abs start ≤ 2 ^ 23 + 2 ^ 13 }
+    requires products { (k : ℕ) → k < 4 → unsigned_abs (at x k) ≤ 2 * (8035 * 2 ^ 15) }
+    ensures begun { (k : ℕ) → k < 2 → at result (2 * k) ≡ start +ℤ at x (2 * k) }
+    ensures same { (k : ℕ) → k < 2 → at result (2 * k + 1) ≡ at x (2 * k + 1) }
+    ensures small { (k : ℕ) → k < 4 → unsigned_abs (at result k) ≤ 2 * (8035 * 2 ^ 15) + (2 ^ 23 + 2 ^ 13) }
+{
+    let [a, b, c, d] = x;
+    [start + a, b, start + c, d]
+}
+
 /// The sums and differences of the products of the even half.
 #[inline(always)]
 fn crossed(x: [i32; 4]) -> [i32; 4]
-    requires { (k : ℕ) → k < 4 → unsigned_abs (at x k) ≤ 2 * (8035 * 2 ^ 15) }
+    requires { (k : ℕ) → k < 4 → unsigned_abs (at x k) ≤ 2 * (8035 * 2 ^ 15) + (2 ^ 23 + 2 ^ 13) }
     ensures outer { (at result 0 ≡ at x 0 +ℤ at x 1) × (at result 3 ≡ at x 0 -ℤ at x 1) }
     ensures inner { (at result 1 ≡ at x 2 +ℤ at x 3) × (at result 2 ≡ at x 2 -ℤ at x 3) }
-    ensures small { (k : ℕ) → k < 4 → unsigned_abs (at result k) ≤ 4 * (8035 * 2 ^ 15) }
+    ensures small { (k : ℕ) → k < 4 → unsigned_abs (at result k) ≤ 4 * (8035 * 2 ^ 15) + (2 ^ 24 + 2 ^ 14) }
 {
     let [a, b, c, d] = x;
     [a + b, c + d, c - d, a - b]

@@ -1,6 +1,7 @@
 //! Rows and columns of a block of 8 by 8.
 
-ghost use Rattle.std.specs.Prelude.{◌≡◌, ◌≢◌, ◌<◌, ◌+◌, ◌*◌, ℕ, slice_index};
+ghost use Rattle.std.specs.Prelude.{◌≡◌, ◌≢◌, ◌≤◌, ◌<◌, ◌+◌, ◌*◌, ◌^◌, ℕ, slice_index};
+ghost use Rattle.std.specs.Int.RustNames.{unsigned_abs};
 ghost use Rattle.whole_transform.specs.Sums.{at};
 ghost use Rattle.whole_transform.specs.Transform.{cell};
 
@@ -115,22 +116,34 @@ pub fn narrow_row(block: &[i32; 64], row: usize) -> [i32; 8]
     ]
 }
 
-/// The values of a column in 32 bits.
+/// The values of a column of numbers below 2^15 in size.
 #[inline(always)]
 pub fn narrow_column(block: &[i32; 64], column: usize) -> [i32; 8]
-    requires { column < 8 }
+    requires place { column < 8 }
+    requires sizes { (k : ℕ) → unsigned_abs (at block.now k) < 2 ^ 15 }
     ensures { (y : ℕ) → y < 8 → at result y ≡ cell block.now y column }
 {
     [
-        block[column],
-        block[8 + column],
-        block[16 + column],
-        block[24 + column],
-        block[32 + column],
-        block[40 + column],
-        block[48 + column],
-        block[56 + column],
+        short_at(block, column),
+        short_at(block, 8 + column),
+        short_at(block, 16 + column),
+        short_at(block, 24 + column),
+        short_at(block, 32 + column),
+        short_at(block, 40 + column),
+        short_at(block, 48 + column),
+        short_at(block, 56 + column),
     ]
+}
+
+/// A number of 16 bits. The cast tells the compiler of them, which then multiplies 16 bits by 16.
+#[inline(always)]
+fn short_at(block: &[i32; 64], place: usize) -> i32
+    requires place { place < 64 }
+    requires sizes { (k : ℕ) → unsigned_abs (at block.now k) < 2 ^ 15 }
+    ensures same { result ≡ at block.now place }
+    ensures small { unsigned_abs result ≤ 2 ^ 15 }
+{
+    i32::from(block[place] as i16)
 }
 
 /// Writes a row of samples.

@@ -326,23 +326,23 @@ fn blocks_side_by_side_keep_apart(rt: HostRuntime) -> Result<(), Fail> {
     for place in 0..64 {
         products[8 * place + 7] = -32_768;
     }
-    let mut samples = [0u16; 512];
+    let mut samples = [0i32; 512];
     inverse_lanes(&products, &mut samples);
     for place in 0..64 {
         assert_eq!(rt; samples[8 * place], 512, "an empty block at {place}");
         assert_eq!(rt;
             samples[8 * place + 2],
-            WAVE_SAMPLES[place],
+            i32::from(WAVE_SAMPLES[place]),
             "a wave at {place}"
         );
         assert_eq!(rt;
             samples[8 * place + 5],
-            MIXED_SAMPLES[place],
+            i32::from(MIXED_SAMPLES[place]),
             "mixed at {place}"
         );
         assert_eq!(rt;
             samples[8 * place + 7],
-            DEEP_SAMPLES[place],
+            i32::from(DEEP_SAMPLES[place]),
             "least products at {place}"
         );
     }

@@ -18,4 +18,4 @@ loop-u-preserved c = λ y u y_lt u_lt. ⊎_elim
 pub returns-clause-small : goal.returns-clause-small
 returns-clause-small c = λ y u y_lt u_lt.
     subst (λ (z : ℤ). unsigned_abs z ≤ 2 ^ 15 * 43284) (sym (c.loop-u.invariant y u y_lt (omega arith)))
-    (column_small (2 ^ 15) (λ v. cell c.args.products.now v u) (λ v lt. c.requires (8 * v + u)) y y_lt)
+    (column_small (2 ^ 15) (λ v. cell c.args.products.now v u) (λ v lt. let below = c.requires (8 * v + u) in omega arith) y y_lt)
