@@ -4,6 +4,7 @@ use Rattle.std.proofs.Math.Nat.{le_trans, le_refl}
 use Rattle.std.proofs.lemmas.Int.{ints}
 use Rattle.std.specs.Int.RustNames.{unsigned_abs}
 use Rattle.whole_transform.specs.Sums.{sum_to}
+use Rattle.whole_transform.specs.Passes.{even_of, inverse_of, odd_of}
 use Rattle.whole_transform.specs.Transform.{basis, turn, cosine}
 use Rattle.whole_transform.proofs.EachLemmas.{below_four, below_eight}
 use Rattle.whole_transform.proofs.SumLemmas.{abs-mul-le, total, sum_bound}
@@ -76,14 +77,14 @@ even_columns f z r a b c d same_0 same_2 same_1 same_3 fourth second outer inner
     let sum = even_columns_from (pos 0) f z z r a b c d same_0 same_2 same_1 same_3 fourth second (λ k p. omega (arith, ints)) (λ k p. refl) outer inner j lt in
     omega (arith, ints)
 
--- all eight sums by columns, begun with a number: the halves added at the first four places and subtracted at their mirrored ones
-pub joined_halves_from : (start : ℤ) (f g h even odd r : ℕ → ℤ) → ((k : ℕ) → k < 4 → g k ≡ f (2 * k)) → ((k : ℕ) → k < 4 → h k ≡ f (2 * k + 1)) →
-    ((j : ℕ) → j < 4 → even j ≡ start +ℤ sum_to 4 (λ k. basis (2 * k) j *ℤ g k)) →
+-- all eight sums by columns: the halves added at the first four places and subtracted at their mirrored ones
+pub joined_halves : (f g h even odd r : ℕ → ℤ) → ((k : ℕ) → k < 4 → g k ≡ f (2 * k)) → ((k : ℕ) → k < 4 → h k ≡ f (2 * k + 1)) →
+    ((j : ℕ) → j < 4 → even j ≡ sum_to 4 (λ k. basis (2 * k) j *ℤ g k)) →
     ((j : ℕ) → j < 4 → odd j ≡ sum_to 4 (λ k. basis (2 * j + 1) k *ℤ h k)) →
     ((j : ℕ) → j < 4 → r j ≡ even j +ℤ odd j) → ((j : ℕ) → j < 4 → r (7 - j) ≡ even j -ℤ odd j) →
-    (j : ℕ) → j < 8 → r j ≡ start +ℤ sum_to 8 (λ k. basis k j *ℤ f k)
+    (j : ℕ) → j < 8 → r j ≡ sum_to 8 (λ k. basis k j *ℤ f k)
 unfolding sum_to basis turn cosine
-joined_halves_from start f g h even odd r evens odds even_sum odd_sum first last =
+joined_halves f g h even odd r evens odds even_sum odd_sum first last =
     let g_0 = evens 0 (lit< tt) in let g_1 = evens 1 (lit< tt) in let g_2 = evens 2 (lit< tt) in let g_3 = evens 3 (lit< tt) in
     let h_0 = odds 0 (lit< tt) in let h_1 = odds 1 (lit< tt) in let h_2 = odds 2 (lit< tt) in let h_3 = odds 3 (lit< tt) in
     below_eight _
@@ -96,15 +97,16 @@ joined_halves_from start f g h even odd r evens odds even_sum odd_sum first last
     (let e = even_sum 1 (lit< tt) in let o = odd_sum 1 (lit< tt) in let s = last 1 (lit< tt) in omega (arith, ints))
     (let e = even_sum 0 (lit< tt) in let o = odd_sum 0 (lit< tt) in let s = last 0 (lit< tt) in omega (arith, ints))
 
--- the same sums, begun with nothing
-pub joined_halves : (f g h even odd r : ℕ → ℤ) → ((k : ℕ) → k < 4 → g k ≡ f (2 * k)) → ((k : ℕ) → k < 4 → h k ≡ f (2 * k + 1)) →
-    ((j : ℕ) → j < 4 → even j ≡ sum_to 4 (λ k. basis (2 * k) j *ℤ g k)) →
-    ((j : ℕ) → j < 4 → odd j ≡ sum_to 4 (λ k. basis (2 * j + 1) k *ℤ h k)) →
-    ((j : ℕ) → j < 4 → r j ≡ even j +ℤ odd j) → ((j : ℕ) → j < 4 → r (7 - j) ≡ even j -ℤ odd j) →
-    (j : ℕ) → j < 8 → r j ≡ sum_to 8 (λ k. basis k j *ℤ f k)
-joined_halves f g h even odd r evens odds even_sum odd_sum first last j lt =
-    let sum = joined_halves_from (pos 0) f g h even odd r evens odds (λ k p. let part = even_sum k p in omega (arith, ints)) odd_sum first last j lt in
-    omega (arith, ints)
+-- two of the eight sums, each begun with a number, from the even and the odd part at one of the first four places
+pub mirrored_sums : (start : ℤ) (f : ℕ → ℤ) (k : ℕ) → k < 4 → (even odd : ℤ) → even ≡ even_of start f k → odd ≡ odd_of f k →
+    (even +ℤ odd ≡ start +ℤ inverse_of f k) × (even -ℤ odd ≡ start +ℤ inverse_of f (7 - k))
+unfolding sum_to basis turn cosine
+mirrored_sums start f = below_four
+    (λ k. (even odd : ℤ) → even ≡ even_of start f k → odd ≡ odd_of f k → (even +ℤ odd ≡ start +ℤ inverse_of f k) × (even -ℤ odd ≡ start +ℤ inverse_of f (7 - k)))
+    (λ even odd p q. (omega (arith, ints), omega (arith, ints)))
+    (λ even odd p q. (omega (arith, ints), omega (arith, ints)))
+    (λ even odd p q. (omega (arith, ints), omega (arith, ints)))
+    (λ even odd p q. (omega (arith, ints), omega (arith, ints)))
 
 -- the size of a sum over a basis number
 pub basis_small : (m : ℕ) (f : ℕ → ℤ) → ((j : ℕ) → j < 8 → unsigned_abs (f j) ≤ m) → (k : ℕ) → k < 8 → unsigned_abs (sum_to 8 (λ j. basis k j *ℤ f j)) ≤ m * 46344

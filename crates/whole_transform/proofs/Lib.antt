@@ -3,3 +3,4 @@ pub mod Halves
 pub mod Rounding
 pub mod SumLemmas
 pub mod WordLemmas
+pub mod RowLemmas

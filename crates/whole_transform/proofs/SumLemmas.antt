@@ -23,6 +23,11 @@ unfolding sum_to
 sum_ext zero f g same = refl
 sum_ext (suc n) f g same = cc (sum_ext n f g (λ k lt. same k (omega arith)), same n (omega arith))
 
+-- four terms over values that are equal, one by one
+pub sum_of_four : (b v w : ℕ → ℤ) → v 0 ≡ w 0 → v 1 ≡ w 1 → v 2 ≡ w 2 → v 3 ≡ w 3 → sum_to 4 (λ k. b k *ℤ v k) ≡ sum_to 4 (λ k. b k *ℤ w k)
+unfolding sum_to
+sum_of_four b v w zeroth first second third = cc (zeroth, first, second, third)
+
 pub mul_assoc : (a b c : ℤ) → (a *ℤ b) *ℤ c ≡ a *ℤ (b *ℤ c)
 mul_assoc a b c =
     let ab = product_is a b in

@@ -1,5 +1,5 @@
 -- Eight numbers and the basis: what one step of a pass over columns or rows gives (own).
-use Rattle.std.specs.Prelude.{ℕ, ◌+◌, ◌*◌, ℤ, ◌*ℤ◌, List}
+use Rattle.std.specs.Prelude.{ℕ, ◌+◌, ◌*◌, ℤ, ◌+ℤ◌, ◌*ℤ◌, List}
 use Rattle.whole_transform.specs.Sums.{sum_to, at}
 use Rattle.whole_transform.specs.Transform.{basis}
 
@@ -10,6 +10,14 @@ forward_of values k = sum_to 8 (λ j. basis k j *ℤ values j)
 -- the sum over the eight basis numbers at place j and the values
 abbrev pub inverse_of : (ℕ → ℤ) → ℕ → ℤ
 inverse_of values j = sum_to 8 (λ k. basis k j *ℤ values k)
+
+-- the part of that sum over the even basis numbers, begun with a number
+abbrev pub even_of : ℤ → (ℕ → ℤ) → ℕ → ℤ
+even_of start values j = start +ℤ sum_to 4 (λ k. basis (2 * k) j *ℤ values (2 * k))
+
+-- and over the odd ones
+abbrev pub odd_of : (ℕ → ℤ) → ℕ → ℤ
+odd_of values j = sum_to 4 (λ k. basis (2 * j + 1) k *ℤ values (2 * k + 1))
 
 -- the number in a row of eight blocks that stand side by side
 abbrev pub lane_at : List ℤ → ℕ → ℕ → ℤ

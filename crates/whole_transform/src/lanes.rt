@@ -128,38 +128,59 @@ fn put_lane_samples(blocks: &mut [i32; 512], row: usize, lane: usize, values: [u
     }
 }
 
-/// The samples of a row, by the sums of the upper and of the lower halves of its values.
+/// The samples of a row, by the sums of the upper and of the lower halves of its values. They come two by two, so that
+/// the machine can end some while it begins others.
 #[inline(always)]
 pub fn samples_of_sums(values: [i32; 8]) -> [u16; 8]
     requires { (u : ℕ) → u < 8 → unsigned_abs (at values u) ≤ 2 ^ 15 * 43284 }
     ensures { (x : ℕ) → x < 8 → slice_index result x ≡ sample (inverse_of (at values) x) }
 {
     let (high, low) = split(values);
-    joined_samples(
-        narrow::inverse_eight_from(HALF_AND_MIDDLE, high),
-        narrow::inverse_eight(low),
+    let even_high = narrow::even_sums(HALF_AND_MIDDLE, high);
+    let even_low = narrow::even_sums(0, low);
+    let odd_high = narrow::odd_sums(high);
+    let odd_low = narrow::odd_sums(low);
+    let (a, h) = mirrored_samples(0, even_high, odd_high, even_low, odd_low);
+    let (b, g) = mirrored_samples(1, even_high, odd_high, even_low, odd_low);
+    let (c, f) = mirrored_samples(2, even_high, odd_high, even_low, odd_low);
+    let (d, e) = mirrored_samples(3, even_high, odd_high, even_low, odd_low);
+    [a, b, c, d, e, f, g, h]
+}
+
+/// The samples at a place and at the one as far from the end, by the even and the odd part of the sums of the upper and
+/// of the lower halves. The even part of the upper ones has one half and 512 besides.
+#[inline(always)]
+fn mirrored_samples(
+    x: usize,
+    even_high: [i32; 4],
+    odd_high: [i32; 4],
+    even_low: [i32; 4],
+    odd_low: [i32; 4],
+) -> (u16, u16)
+    requires place { x < 4 }
+    requires high { unsigned_abs (at even_high x) + unsigned_abs (at odd_high x) ≤ 21643 * 43284 + (2 ^ 23 + 2 ^ 13) }
+    requires low { unsigned_abs (at even_low x) + unsigned_abs (at odd_low x) ≤ 2 ^ 15 * 43284 }
+    ensures first { result.0 ≡ sample (pos 65536 *ℤ ((at even_high x +ℤ at odd_high x) -ℤ pos (2 ^ 23 + 2 ^ 13))
+        +ℤ (at even_low x +ℤ at odd_low x)) }
+    ensures last { result.1 ≡ sample (pos 65536 *ℤ ((at even_high x -ℤ at odd_high x) -ℤ pos (2 ^ 23 + 2 ^ 13))
+        +ℤ (at even_low x -ℤ at odd_low x)) }
+{
+    let (first_high, last_high) = sum_and_difference(even_high[x], odd_high[x]);
+    let (first_low, last_low) = sum_and_difference(even_low[x], odd_low[x]);
+    (
+        joined_sample(first_high, first_low),
+        joined_sample(last_high, last_low),
     )
 }
 
-/// The samples of sums that are given by their halves' sums. Those of the upper halves have one half and 512 besides.
+/// Two numbers added and subtracted.
 #[inline(always)]
-fn joined_samples(high: [i32; 8], low: [i32; 8]) -> [u16; 8]
-    requires high { (x : ℕ) → x < 8 → unsigned_abs (at high x) ≤ 21643 * 43284 + (2 ^ 23 + 2 ^ 13) }
-    requires low { (x : ℕ) → x < 8 → unsigned_abs (at low x) ≤ 2 ^ 15 * 43284 }
-    ensures { (x : ℕ) → x < 8 → slice_index result x ≡ sample (pos 65536 *ℤ (at high x -ℤ pos (2 ^ 23 + 2 ^ 13)) +ℤ at low x) }
+fn sum_and_difference(a: i32, b: i32) -> (i32, i32)
+    requires { unsigned_abs a + unsigned_abs b < 2 ^ 31 }
+    ensures sum { result.0 ≡ a +ℤ b }
+    ensures difference { result.1 ≡ a -ℤ b }
 {
-    let [a, b, c, d, e, f, g, h] = high;
-    let [i, j, k, l, m, n, o, p] = low;
-    [
-        joined_sample(a, i),
-        joined_sample(b, j),
-        joined_sample(c, k),
-        joined_sample(d, l),
-        joined_sample(e, m),
-        joined_sample(f, n),
-        joined_sample(g, o),
-        joined_sample(h, p),
-    ]
+    (a + b, a - b)
 }
 
 /// Each value in two: its nearest multiple of 65536, over it, and what is left.

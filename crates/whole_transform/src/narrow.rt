@@ -3,7 +3,7 @@
 
 ghost use Rattle.std.specs.Prelude.{◌≡◌, ◌≤◌, ◌<◌, ◌+◌, ◌-◌, ◌*◌, ◌^◌, ℕ, ℤ, pos, ◌+ℤ◌, ◌-ℤ◌, ◌*ℤ◌};
 ghost use Rattle.std.specs.Int.RustNames.{unsigned_abs};
-ghost use Rattle.whole_transform.specs.Passes.{forward_of, inverse_of};
+ghost use Rattle.whole_transform.specs.Passes.{even_of, forward_of, inverse_of, odd_of};
 ghost use Rattle.whole_transform.specs.Sums.{at, sum_to};
 ghost use Rattle.whole_transform.specs.Transform.{basis};
 
@@ -25,20 +25,31 @@ pub fn inverse_eight(x: [i32; 8]) -> [i32; 8]
     requires { (k : ℕ) → k < 8 → unsigned_abs (at x k) ≤ 2 ^ 15 }
     ensures { (j : ℕ) → j < 8 → at result j ≡ inverse_of (at x) j }
 {
-    inverse_eight_from(0, x)
+    unmirrored(even_sums(0, x), odd_sums(x))
 }
 
-/// The same sums, each begun with a number. It is added to two products, where the eight sums would take it eight times.
+/// The even part of these sums at the first four places, each begun with a number. It is added to two products, where
+/// the eight sums would take it eight times.
 #[inline(always)]
-pub fn inverse_eight_from(start: i32, x: [i32; 8]) -> [i32; 8]
+pub fn even_sums(start: i32, x: [i32; 8]) -> [i32; 4]
     requires start { unsigned_abs start ≤ 2 ^ 23 + 2 ^ 13 }
     requires values { (k : ℕ) → k < 8 → unsigned_abs (at x k) ≤ 2 ^ 15 }
-    ensures { (j : ℕ) → j < 8 → at result j ≡ start +ℤ inverse_of (at x) j }
+    ensures sums { (j : ℕ) → j < 4 → at result j ≡ even_of start (at x) j }
+    ensures small { (j : ℕ) → j < 4 → unsigned_abs (at result j) ≤ 4 * (8035 * 2 ^ 15) + (2 ^ 24 + 2 ^ 14) }
 {
-    let [zeroth, first, second, third, fourth, fifth, sixth, seventh] = x;
-    let even = inverse_even(start, [zeroth, second, fourth, sixth]);
-    let odd = odd_half([first, third, fifth, seventh]);
-    unmirrored(even, odd)
+    let [zeroth, _, second, _, fourth, _, sixth, _] = x;
+    inverse_even(start, [zeroth, second, fourth, sixth])
+}
+
+/// The odd part at the first four places.
+#[inline(always)]
+pub fn odd_sums(x: [i32; 8]) -> [i32; 4]
+    requires { (k : ℕ) → k < 8 → unsigned_abs (at x k) ≤ 2 ^ 15 }
+    ensures sums { (j : ℕ) → j < 4 → at result j ≡ odd_of (at x) j }
+    ensures small { (j : ℕ) → j < 4 → unsigned_abs (at result j) ≤ 4 * (8035 * 2 ^ 15) }
+{
+    let [_, first, _, third, _, fifth, _, seventh] = x;
+    odd_half([first, third, fifth, seventh])
 }
 
 /// The sums of the first and the last value, then of the second and the last but one, and the differences likewise.
@@ -119,12 +130,27 @@ fn even_products(x: [i32; 4]) -> [i32; 4]
     ensures small { (k : ℕ) → k < 4 → unsigned_abs (at result k) ≤ 2 * (8035 * 2 ^ 15) }
 {
     let [a, b, c, d] = x;
+    let (sum, difference) = middle_products(a, b);
     [
-        two_products(5793, a, 5793, b),
+        sum,
         two_products(7568, c, 3135, d),
-        two_products(5793, a, -5793, b),
+        difference,
         two_products(3135, c, -7568, d),
     ]
+}
+
+/// The products of the basis number that is the same at each place but for its sign. Each value is multiplied alone,
+/// since its product is one of 16 bits by 16, and that of a sum may not be.
+#[inline(always)]
+fn middle_products(a: i32, b: i32) -> (i32, i32)
+    requires first { unsigned_abs a ≤ 2 ^ 15 }
+    requires second { unsigned_abs b ≤ 2 ^ 15 }
+    ensures sum { result.0 ≡ (pos 5793 *ℤ a) +ℤ (pos 5793 *ℤ b) }
+    ensures difference { result.1 ≡ (pos 5793 *ℤ a) -ℤ (pos 5793 *ℤ b) }
+    ensures small { (unsigned_abs result.0 ≤ 2 * (8035 * 2 ^ 15)) × (unsigned_abs result.1 ≤ 2 * (8035 * 2 ^ 15)) }
+{
+    let (p, q) = (5793 * a, 5793 * b);
+    (p + q, p - q)
 }
 
 /// The products of the even half, a number added to those that are added to others.

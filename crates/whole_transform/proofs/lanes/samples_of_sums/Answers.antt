@@ -1,27 +1,55 @@
-use Rattle.std.proofs.Common.{◌≡◌, ◌≤◌, ◌∙◌, ◌+◌, ◌*◌, ◌^◌, ℤ, pos, ◌+ℤ◌, ◌-ℤ◌, ◌*ℤ◌, ap, sym, subst, arith}
-use Rattle.std.specs.Int.RustNames.{unsigned_abs}
-use Rattle.std.proofs.lemmas.Int.{ints}
-use Rattle.whole_transform.specs.Sums.{at, sum_to}
+use Rattle.std.proofs.Common.{◌∙◌, ℕ, ◌+◌, ◌<◌, ◌^◌, pos, ap, sym, lit<, lit≤}
+use Rattle.whole_transform.specs.Sums.{at}
 use Rattle.whole_transform.specs.Transform.{basis, sample}
+use Rattle.whole_transform.proofs.EachLemmas.{below_eight}
 use Rattle.whole_transform.proofs.SumLemmas.{sum_split}
-use Rattle.whole_transform.proofs.Halves.{column_small}
+use Rattle.whole_transform.proofs.RowLemmas.{parts_small, mirrored_are}
 use Rattle.whole_transform.proofs.lanes.samples_of_sums.Goals as goal
 
-pub joined_samples-requires-clause-high : goal.joined_samples-requires-clause-high
-joined_samples-requires-clause-high c = λ x lt.
-    let sum = c.inverse_eight_from.ensures x lt in
-    let small = column_small 21643 (at c.split.result.0) c.split.ensures.high x lt in
-    omega (arith, ints)
+pub mirrored_samples-a-requires-clause-high : goal.mirrored_samples-a-requires-clause-high
+mirrored_samples-a-requires-clause-high c = parts_small 21643 (2 ^ 23 + 2 ^ 13) (pos (2 ^ 23 + 2 ^ 13)) (at c.split.result.0) 0 (lit< tt) (lit≤ tt) c.split.ensures.high
+    (at c.even_sums-even_high.result 0) (at c.odd_sums-odd_high.result 0) (c.even_sums-even_high.ensures.sums 0 (lit< tt)) (c.odd_sums-odd_high.ensures.sums 0 (lit< tt))
 
-pub joined_samples-requires-clause-low : goal.joined_samples-requires-clause-low
-joined_samples-requires-clause-low c = λ x lt. subst (λ (z : ℤ). unsigned_abs z ≤ 2 ^ 15 * 43284) (sym (c.inverse_eight.ensures x lt))
-    (column_small (2 ^ 15) (at c.split.result.1) c.split.ensures.low x lt)
+pub mirrored_samples-a-requires-clause-low : goal.mirrored_samples-a-requires-clause-low
+mirrored_samples-a-requires-clause-low c = parts_small (2 ^ 15) 0 (pos 0) (at c.split.result.1) 0 (lit< tt) (lit≤ tt) c.split.ensures.low
+    (at c.even_sums-even_low.result 0) (at c.odd_sums-odd_low.result 0) (c.even_sums-even_low.ensures.sums 0 (lit< tt)) (c.odd_sums-odd_low.ensures.sums 0 (lit< tt))
+
+pub mirrored_samples-b-requires-clause-high : goal.mirrored_samples-b-requires-clause-high
+mirrored_samples-b-requires-clause-high c = parts_small 21643 (2 ^ 23 + 2 ^ 13) (pos (2 ^ 23 + 2 ^ 13)) (at c.split.result.0) 1 (lit< tt) (lit≤ tt) c.split.ensures.high
+    (at c.even_sums-even_high.result 1) (at c.odd_sums-odd_high.result 1) (c.even_sums-even_high.ensures.sums 1 (lit< tt)) (c.odd_sums-odd_high.ensures.sums 1 (lit< tt))
+
+pub mirrored_samples-b-requires-clause-low : goal.mirrored_samples-b-requires-clause-low
+mirrored_samples-b-requires-clause-low c = parts_small (2 ^ 15) 0 (pos 0) (at c.split.result.1) 1 (lit< tt) (lit≤ tt) c.split.ensures.low
+    (at c.even_sums-even_low.result 1) (at c.odd_sums-odd_low.result 1) (c.even_sums-even_low.ensures.sums 1 (lit< tt)) (c.odd_sums-odd_low.ensures.sums 1 (lit< tt))
+
+pub mirrored_samples-c-requires-clause-high : goal.mirrored_samples-c-requires-clause-high
+mirrored_samples-c-requires-clause-high c = parts_small 21643 (2 ^ 23 + 2 ^ 13) (pos (2 ^ 23 + 2 ^ 13)) (at c.split.result.0) 2 (lit< tt) (lit≤ tt) c.split.ensures.high
+    (at c.even_sums-even_high.result 2) (at c.odd_sums-odd_high.result 2) (c.even_sums-even_high.ensures.sums 2 (lit< tt)) (c.odd_sums-odd_high.ensures.sums 2 (lit< tt))
+
+pub mirrored_samples-c-requires-clause-low : goal.mirrored_samples-c-requires-clause-low
+mirrored_samples-c-requires-clause-low c = parts_small (2 ^ 15) 0 (pos 0) (at c.split.result.1) 2 (lit< tt) (lit≤ tt) c.split.ensures.low
+    (at c.even_sums-even_low.result 2) (at c.odd_sums-odd_low.result 2) (c.even_sums-even_low.ensures.sums 2 (lit< tt)) (c.odd_sums-odd_low.ensures.sums 2 (lit< tt))
+
+pub mirrored_samples-d-requires-clause-high : goal.mirrored_samples-d-requires-clause-high
+mirrored_samples-d-requires-clause-high c = parts_small 21643 (2 ^ 23 + 2 ^ 13) (pos (2 ^ 23 + 2 ^ 13)) (at c.split.result.0) 3 (lit< tt) (lit≤ tt) c.split.ensures.high
+    (at c.even_sums-even_high.result 3) (at c.odd_sums-odd_high.result 3) (c.even_sums-even_high.ensures.sums 3 (lit< tt)) (c.odd_sums-odd_high.ensures.sums 3 (lit< tt))
+
+pub mirrored_samples-d-requires-clause-low : goal.mirrored_samples-d-requires-clause-low
+mirrored_samples-d-requires-clause-low c = parts_small (2 ^ 15) 0 (pos 0) (at c.split.result.1) 3 (lit< tt) (lit≤ tt) c.split.ensures.low
+    (at c.even_sums-even_low.result 3) (at c.odd_sums-odd_low.result 3) (c.even_sums-even_low.ensures.sums 3 (lit< tt)) (c.odd_sums-odd_low.ensures.sums 3 (lit< tt))
 
 pub returns : goal.returns
-returns c = λ x lt.
-    let high : at c.inverse_eight_from.result x -ℤ pos (2 ^ 23 + 2 ^ 13) ≡ sum_to 8 (λ u. basis u x *ℤ at c.split.result.0 u) =
-    (let sum = c.inverse_eight_from.ensures x lt in omega (arith, ints)) in
-    c.joined_samples.ensures x lt
-    ∙ ap (λ (z : ℤ). sample (pos 65536 *ℤ z +ℤ at c.inverse_eight.result x)) high
-    ∙ ap (λ (z : ℤ). sample (pos 65536 *ℤ sum_to 8 (λ u. basis u x *ℤ at c.split.result.0 u) +ℤ z)) (c.inverse_eight.ensures x lt)
-    ∙ ap sample (sym (sum_split 8 (pos 65536) (λ u. basis u x) (at c.args.values) (at c.split.result.0) (at c.split.result.1) c.split.ensures.whole))
+returns c =
+    let whole = λ (x : ℕ). ap sample (sym (sum_split 8 (pos 65536) (λ u. basis u x) (at c.args.values) (at c.split.result.0) (at c.split.result.1) c.split.ensures.whole)) in
+    let pair = λ (k : ℕ) (lt : k < 4). mirrored_are (at c.split.result.0) (at c.split.result.1) k lt
+    (at c.even_sums-even_high.result k) (at c.odd_sums-odd_high.result k) (at c.even_sums-even_low.result k) (at c.odd_sums-odd_low.result k)
+    (c.even_sums-even_high.ensures.sums k lt) (c.odd_sums-odd_high.ensures.sums k lt) (c.even_sums-even_low.ensures.sums k lt) (c.odd_sums-odd_low.ensures.sums k lt) in
+    below_eight _
+    (c.mirrored_samples-a.ensures.first ∙ ((pair 0 (lit< tt)).0 ∙ whole 0))
+    (c.mirrored_samples-b.ensures.first ∙ ((pair 1 (lit< tt)).0 ∙ whole 1))
+    (c.mirrored_samples-c.ensures.first ∙ ((pair 2 (lit< tt)).0 ∙ whole 2))
+    (c.mirrored_samples-d.ensures.first ∙ ((pair 3 (lit< tt)).0 ∙ whole 3))
+    (c.mirrored_samples-d.ensures.last ∙ ((pair 3 (lit< tt)).1 ∙ whole 4))
+    (c.mirrored_samples-c.ensures.last ∙ ((pair 2 (lit< tt)).1 ∙ whole 5))
+    (c.mirrored_samples-b.ensures.last ∙ ((pair 1 (lit< tt)).1 ∙ whole 6))
+    (c.mirrored_samples-a.ensures.last ∙ ((pair 0 (lit< tt)).1 ∙ whole 7))
