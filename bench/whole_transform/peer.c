@@ -1,6 +1,6 @@
 // The same sums as the program beside it, in plain C: columns and then rows, eight values at a time by an even and an
-// odd half, 22 products for eight sums. Numbers are plain ints of 32 or 64 bits; eight blocks at once have their columns
-// where their samples come.
+// odd half, 22 products for eight sums. Numbers are plain ints of 32 or 64 bits; the columns of eight blocks at once
+// stand where their samples come.
 #include <stdint.h>
 #include <stdio.h>
 #include <string.h>

@@ -97,6 +97,12 @@ joined_halves f g h even odd r evens odds even_sum odd_sum first last =
     (let e = even_sum 1 (lit< tt) in let o = odd_sum 1 (lit< tt) in let s = last 1 (lit< tt) in omega (arith, ints))
     (let e = even_sum 0 (lit< tt) in let o = odd_sum 0 (lit< tt) in let s = last 0 (lit< tt) in omega (arith, ints))
 
+-- the odd basis numbers at the first four places are the same by rows and by columns
+pub odd_turned : (f : ℕ → ℤ) (j : ℕ) → j < 4 → sum_to 4 (λ k. basis (2 * j + 1) k *ℤ f k) ≡ sum_to 4 (λ k. basis (2 * k + 1) j *ℤ f k)
+unfolding sum_to basis turn cosine
+odd_turned f = below_four (λ j. sum_to 4 (λ k. basis (2 * j + 1) k *ℤ f k) ≡ sum_to 4 (λ k. basis (2 * k + 1) j *ℤ f k))
+    (omega (arith, ints)) (omega (arith, ints)) (omega (arith, ints)) (omega (arith, ints))
+
 -- two of the eight sums, each begun with a number, from the even and the odd part at one of the first four places
 pub mirrored_sums : (start : ℤ) (f : ℕ → ℤ) (k : ℕ) → k < 4 → (even odd : ℤ) → even ≡ even_of start f k → odd ≡ odd_of f k →
     (even +ℤ odd ≡ start +ℤ inverse_of f k) × (even -ℤ odd ≡ start +ℤ inverse_of f (7 - k))

@@ -114,7 +114,7 @@ pub sample_least : (z : ℤ) → 4 ≤ sample z
 unfolding sample
 sample_least z = clamped_least (pos 512 +ℤ floored (z +ℤ pos (2 ^ 29)) (2 ^ 30))
 
--- the same of eight blocks side by side, whose samples stand as numbers with a sign
+-- samples of eight blocks side by side, as numbers with a sign, keep their range at each place
 pub all_lanes_in_range : (samples : List ℤ) (sums : ℕ → ℕ → ℕ → ℤ) →
     ((b y x : ℕ) → b < 8 → y < 8 → x < 8 → lane_cell samples b y x ≡ pos (sample (sums b y x))) →
     (k : ℕ) → k < 512 → (pos 4 ≤ℤ at samples k) × (at samples k ≤ℤ pos 1019)

@@ -17,7 +17,7 @@ even_of start values j = start +ℤ sum_to 4 (λ k. basis (2 * k) j *ℤ values 
 
 -- and over the odd ones
 abbrev pub odd_of : (ℕ → ℤ) → ℕ → ℤ
-odd_of values j = sum_to 4 (λ k. basis (2 * j + 1) k *ℤ values (2 * k + 1))
+odd_of values j = sum_to 4 (λ k. basis (2 * k + 1) j *ℤ values (2 * k + 1))
 
 -- the number in a row of eight blocks that stand side by side
 abbrev pub lane_at : List ℤ → ℕ → ℕ → ℤ

@@ -10,7 +10,7 @@ ghost use Rattle.whole_transform.specs.Transform.{IsInverseOfEach, floored, lane
 use crate::narrow;
 use crate::samples::clamped_sample;
 
-/// One half, which rounds, and 512, both over 2^14.
+/// One half, which rounds, and 512, both times 2^14.
 const HALF_AND_MIDDLE: i32 = (1 << 13) + (512 << 14);
 
 /// Transforms eight blocks of products of 16 bits into their samples, 4 to 1019: the number of block `b` at a row and a
@@ -128,18 +128,17 @@ fn put_lane_samples(blocks: &mut [i32; 512], row: usize, lane: usize, values: [u
     }
 }
 
-/// The samples of a row, by the sums of the upper and of the lower halves of its values. They come two by two, so that
-/// the machine can end some while it begins others.
+/// The samples of a row, two by two, by the sums of the upper and of the lower halves of its values.
 #[inline(always)]
 pub fn samples_of_sums(values: [i32; 8]) -> [u16; 8]
     requires { (u : ℕ) → u < 8 → unsigned_abs (at values u) ≤ 2 ^ 15 * 43284 }
     ensures { (x : ℕ) → x < 8 → slice_index result x ≡ sample (inverse_of (at values) x) }
 {
     let (high, low) = split(values);
-    let even_high = narrow::even_sums(HALF_AND_MIDDLE, high);
-    let even_low = narrow::even_sums(0, low);
-    let odd_high = narrow::odd_sums(high);
-    let odd_low = narrow::odd_sums(low);
+    let even_high = narrow::even_part(HALF_AND_MIDDLE, high);
+    let even_low = narrow::even_part(0, low);
+    let odd_high = narrow::odd_part(high);
+    let odd_low = narrow::odd_part(low);
     let (a, h) = mirrored_samples(0, even_high, odd_high, even_low, odd_low);
     let (b, g) = mirrored_samples(1, even_high, odd_high, even_low, odd_low);
     let (c, f) = mirrored_samples(2, even_high, odd_high, even_low, odd_low);
@@ -203,7 +202,7 @@ fn split(values: [i32; 8]) -> ([i32; 8], [i32; 8])
     ([a, b, c, d, e, f, g, h], [i, j, k, l, m, n, o, p])
 }
 
-/// One value in two. Both have 16 bits, of which the compiler is told by the cast.
+/// One value in two, both of 16 bits. The shift shows this of the upper half, the cast of the lower.
 #[inline(always)]
 fn halves(value: i32) -> (i32, i32)
     requires { unsigned_abs value ≤ 2 ^ 15 * 43284 }

@@ -1,9 +1,10 @@
 //! The whole-number transform of a block of 8 by 8: `forward` from samples to coefficients, `inverse` from products
 //! to samples, and `inverse_lanes`, the same of eight blocks at once whose products have 16 bits.
 //!
-//! The crates above rest on `IsForward` and `IsInverse` of specs/Transform.antt: each coefficient, and each sample
-//! before it is rounded and clamped, is a double sum over the block with two numbers of the basis. The basis is whole
-//! numbers, so the sums are exact and every machine gives the same.
+//! The crates above rest on `IsForward`, `IsInverse` and `IsInverseOfEach` of specs/Transform.antt: each coefficient,
+//! and each sample before it is rounded and clamped, is a double sum over the block with two numbers of the basis. The
+//! basis is whole numbers, so the sums are exact and every machine gives the same. Samples of one block have 16 bits,
+//! those of eight 32.
 //!
 //! A coefficient is what the format divides by 2^26, the weight and the scale; a product is a level times its weight
 //! and the scale. Neither happens here. The calls go by columns and then by rows, each eight values by an even and an

@@ -25,13 +25,13 @@ pub fn inverse_eight(x: [i32; 8]) -> [i32; 8]
     requires { (k : ℕ) → k < 8 → unsigned_abs (at x k) ≤ 2 ^ 15 }
     ensures { (j : ℕ) → j < 8 → at result j ≡ inverse_of (at x) j }
 {
-    unmirrored(even_sums(0, x), odd_sums(x))
+    unmirrored(even_part(0, x), odd_part(x))
 }
 
-/// The even part of these sums at the first four places, each begun with a number. It is added to two products, where
-/// the eight sums would take it eight times.
+/// The even part of these sums at the first four places, each begun with a number: two additions, where the eight sums
+/// would take eight.
 #[inline(always)]
-pub fn even_sums(start: i32, x: [i32; 8]) -> [i32; 4]
+pub fn even_part(start: i32, x: [i32; 8]) -> [i32; 4]
     requires start { unsigned_abs start ≤ 2 ^ 23 + 2 ^ 13 }
     requires values { (k : ℕ) → k < 8 → unsigned_abs (at x k) ≤ 2 ^ 15 }
     ensures sums { (j : ℕ) → j < 4 → at result j ≡ even_of start (at x) j }
@@ -43,7 +43,7 @@ pub fn even_sums(start: i32, x: [i32; 8]) -> [i32; 4]
 
 /// The odd part at the first four places.
 #[inline(always)]
-pub fn odd_sums(x: [i32; 8]) -> [i32; 4]
+pub fn odd_part(x: [i32; 8]) -> [i32; 4]
     requires { (k : ℕ) → k < 8 → unsigned_abs (at x k) ≤ 2 ^ 15 }
     ensures sums { (j : ℕ) → j < 4 → at result j ≡ odd_of (at x) j }
     ensures small { (j : ℕ) → j < 4 → unsigned_abs (at result j) ≤ 4 * (8035 * 2 ^ 15) }
@@ -96,7 +96,7 @@ fn inverse_even(start: i32, x: [i32; 4]) -> [i32; 4]
     ensures small { (j : ℕ) → j < 4 → unsigned_abs (at result j) ≤ 4 * (8035 * 2 ^ 15) + (2 ^ 24 + 2 ^ 14) }
 {
     let [zeroth, second, fourth, sixth] = x;
-    crossed(begun(start, even_products([zeroth, fourth, second, sixth])))
+    crossed(with_start(start, even_products([zeroth, fourth, second, sixth])))
 }
 
 /// Two sums of mirrored values, then their differences.
@@ -153,9 +153,10 @@ fn middle_products(a: i32, b: i32) -> (i32, i32)
     (p + q, p - q)
 }
 
-/// The products of the even half, a number added to those that are added to others.
+/// The four numbers of the even half, the first and the third begun with a number. Each sum of the even half has one
+/// of these two.
 #[inline(always)]
-fn begun(start: i32, x: [i32; 4]) -> [i32; 4]
+fn with_start(start: i32, x: [i32; 4]) -> [i32; 4]
     requires start { unsigned_abs start ≤ 2 ^ 23 + 2 ^ 13 }
     requires products { (k : ℕ) → k < 4 → unsigned_abs (at x k) ≤ 2 * (8035 * 2 ^ 15) }
     ensures begun { (k : ℕ) → k < 2 → at result (2 * k) ≡ start +ℤ at x (2 * k) }

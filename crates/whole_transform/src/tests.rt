@@ -301,8 +301,8 @@ fn products_have_rounded_and_clamped_samples(rt: HostRuntime) -> Result<(), Fail
         ("mixed", mixed, MIXED_SAMPLES),
         ("all -2^15", [-32_768; 64], DEEP_SAMPLES),
         ("all 2^15", [32_768; 64], HIGH_SAMPLES),
-        ("all -2^15 - 1", [-32_769; 64], DEEP_SAMPLES),
-        ("all 2^15 + 1", [32_769; 64], HIGH_SAMPLES),
+        ("all -2^15 + 1", [-32_767; 64], DEEP_SAMPLES),
+        ("all 2^15 - 1", [32_767; 64], HIGH_SAMPLES),
         ("the last alone is above 2^15", last, LAST_SAMPLES),
     ];
     for (name, products, samples) in cases {

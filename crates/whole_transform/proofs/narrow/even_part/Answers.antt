@@ -4,7 +4,7 @@ use Rattle.whole_transform.specs.Sums.{at}
 use Rattle.whole_transform.specs.Transform.{basis}
 use Rattle.whole_transform.proofs.SumLemmas.{sum_of_four}
 use Rattle.whole_transform.proofs.WordLemmas.{kept, small_fits}
-use Rattle.whole_transform.proofs.narrow.even_sums.Goals as goal
+use Rattle.whole_transform.proofs.narrow.even_part.Goals as goal
 
 pub returns-clause-sums : goal.returns-clause-sums
 returns-clause-sums c =

@@ -3,7 +3,7 @@ use Rattle.std.proofs.lemmas.Int.{ints}
 use Rattle.whole_transform.specs.Sums.{at}
 use Rattle.whole_transform.proofs.EachLemmas.{below_two, below_four}
 use Rattle.whole_transform.proofs.WordLemmas.{kept, kept_small, sum_kept_by}
-use Rattle.whole_transform.proofs.narrow.begun.Goals as goal
+use Rattle.whole_transform.proofs.narrow.with_start.Goals as goal
 
 pub returns-clause-begun : goal.returns-clause-begun
 returns-clause-begun c =
