@@ -1,5 +1,5 @@
 -- Two sums of a row, at a place and at its mirrored one, from their even and their odd part.
-use Rattle.std.proofs.Common.{◌≡◌, ◌∙◌, ℕ, ◌+◌, ◌-◌, ◌*◌, ◌^◌, ◌<◌, ◌≤◌, arith, ℤ, pos, ◌+ℤ◌, ◌-ℤ◌, ◌*ℤ◌, subst, sym, w32, to_z, of_z, ap₂}
+use Rattle.std.proofs.Common.{◌≡◌, ◌∙◌, ℕ, ◌+◌, ◌-◌, ◌*◌, ◌^◌, ◌<◌, ◌≤◌, arith, lit≤, ℤ, pos, ◌+ℤ◌, ◌-ℤ◌, ◌*ℤ◌, subst, sym, w32, to_z, of_z, ap₂}
 use Rattle.std.proofs.lemmas.Int.{ints}
 use Rattle.std.specs.Int.RustNames.{unsigned_abs}
 use Rattle.whole_transform.specs.Passes.{even_of, inverse_of, odd_of}
@@ -21,6 +21,15 @@ parts_small m size start f k lt begun small even odd p q =
     both_small (m * 43284 + size) even odd
     (subst (λ (z : ℤ). unsigned_abs z ≤ m * 43284 + size) (sym sums.0) (omega (arith, ints)))
     (subst (λ (z : ℤ). unsigned_abs z ≤ m * 43284 + size) (sym sums.1) (omega (arith, ints)))
+
+-- of the upper halves, which begin with one half and 512, and of the lower
+pub high_small : (f : ℕ → ℤ) (k : ℕ) → k < 4 → ((u : ℕ) → u < 8 → unsigned_abs (f u) ≤ 21643) →
+    (even odd : ℤ) → even ≡ even_of (pos (2 ^ 23 + 2 ^ 13)) f k → odd ≡ odd_of f k → unsigned_abs even + unsigned_abs odd ≤ 21643 * 43284 + (2 ^ 23 + 2 ^ 13)
+high_small f k lt small = parts_small 21643 (2 ^ 23 + 2 ^ 13) (pos (2 ^ 23 + 2 ^ 13)) f k lt (lit≤ tt) small
+
+pub low_small : (f : ℕ → ℤ) (k : ℕ) → k < 4 → ((u : ℕ) → u < 8 → unsigned_abs (f u) ≤ 2 ^ 15) →
+    (even odd : ℤ) → even ≡ even_of (pos 0) f k → odd ≡ odd_of f k → unsigned_abs even + unsigned_abs odd ≤ 2 ^ 15 * 43284
+low_small f k lt small = parts_small (2 ^ 15) 0 (pos 0) f k lt (lit≤ tt) small
 
 -- the code's numbers for the two parts are as small
 pub parts_fit : (m : ℕ) (even odd : ℤ) → m < 2 ^ 31 → unsigned_abs even + unsigned_abs odd ≤ m →

@@ -1,9 +1,10 @@
 -- Numbers of a width of bits that are kept as they are.
-use Rattle.std.proofs.Common.{◌≡◌, ◌∙◌, ◌≤◌, ◌<◌, ◌+◌, ◌^◌, ℕ, ℤ, pos, negsuc, ◌+ℤ◌, ◌-ℤ◌, ◌*ℤ◌, sym, subst, arith, lit≤, w16, w32, to_z, of_z, FitsSigned}
+use Rattle.std.proofs.Common.{◌≡◌, ◌∙◌, ◌≤◌, ◌<◌, ◌+◌, ◌*◌, ◌^◌, ℕ, ℤ, pos, negsuc, ◌+ℤ◌, ◌-ℤ◌, ◌*ℤ◌, sym, subst, arith, lit≤, w16, w32, to_z, of_z, FitsSigned}
 use Rattle.std.specs.Int.{Width}
 use mir.Val.{hbits}
 use Rattle.std.specs.Int.RustNames.{unsigned_abs}
 use Rattle.std.proofs.lemmas.Int.{ints, to_z-of_z, fits_signed_from_abs}
+use Rattle.whole_transform.proofs.SumLemmas.{abs-mul-le}
 
 -- a number of less than half the range of a width is a number of that width
 pub small_fits : (w : Width) (x : ℤ) (m : ℕ) → m < 2 ^ hbits w → unsigned_abs x ≤ m → FitsSigned w x
@@ -68,3 +69,23 @@ widened_small x r fits e = subst (λ (z : ℤ). unsigned_abs z ≤ 2 ^ 15) (sym 
 -- a sum of halves, part by part
 pub joined_kept : {a b c d : ℤ} → a ≡ b → c ≡ d → pos 65536 *ℤ a +ℤ c ≡ pos 65536 *ℤ b +ℤ d
 joined_kept p q = cc
+
+-- two products of a number up to 8035 in size and a small one, and their sum
+pub record Products (w : Width) (size : ℕ) (p a q b : ℤ) : Type 0 where
+  pub first_fits : FitsSigned w (p *ℤ a)
+  pub second_fits : FitsSigned w (q *ℤ b)
+  pub sum_fits : FitsSigned w (p *ℤ a +ℤ q *ℤ b)
+  pub small : unsigned_abs (p *ℤ a +ℤ q *ℤ b) ≤ 2 * (8035 * size)
+
+pub products_of : (w : Width) (size : ℕ) (p a q b : ℤ) → 2 * (8035 * size) < 2 ^ hbits w →
+    (unsigned_abs p ≤ 8035) × (unsigned_abs a ≤ size) → (unsigned_abs q ≤ 8035) × (unsigned_abs b ≤ size) → Products w size p a q b
+products_of w size p a q b lt first second =
+    let first_small = abs-mul-le p a 8035 size first.0 first.1 in
+    let second_small = abs-mul-le q b 8035 size second.0 second.1 in
+    let small : unsigned_abs (p *ℤ a +ℤ q *ℤ b) ≤ 2 * (8035 * size) = omega (arith, ints) in
+    record {
+      first_fits = fits_signed_from_abs w _ (omega arith);
+      second_fits = fits_signed_from_abs w _ (omega arith);
+      sum_fits = fits_signed_from_abs w _ (omega arith);
+      small = small;
+    }

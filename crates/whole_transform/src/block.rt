@@ -1,7 +1,7 @@
 //! From products to samples: all in 32 bits where every product is below 2^15 in size, as in nearly every block, else
 //! in 64.
 
-ghost use Rattle.std.specs.Prelude.{◌≡◌, ◌≢◌, ◌≤◌, ◌<◌, ◌+◌, ◌*◌, ◌^◌, ℕ, slice_index};
+ghost use Rattle.std.specs.Prelude.{◌≡◌, ◌≤◌, ◌<◌, ◌*◌, ◌^◌, ℕ, slice_index};
 ghost use Rattle.std.specs.Int.RustNames.{unsigned_abs};
 ghost use Rattle.whole_transform.specs.Passes.{inverse_of};
 ghost use Rattle.whole_transform.specs.Sums.{at};

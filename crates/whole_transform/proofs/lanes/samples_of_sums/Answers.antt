@@ -1,42 +1,34 @@
-use Rattle.std.proofs.Common.{◌∙◌, ℕ, ◌+◌, ◌<◌, ◌^◌, pos, ap, sym, lit<, lit≤}
+use Rattle.std.proofs.Common.{◌∙◌, ℕ, ◌<◌, pos, ap, sym, lit<}
 use Rattle.whole_transform.specs.Sums.{at}
 use Rattle.whole_transform.specs.Transform.{basis, sample}
 use Rattle.whole_transform.proofs.EachLemmas.{below_eight}
 use Rattle.whole_transform.proofs.SumLemmas.{sum_split}
-use Rattle.whole_transform.proofs.RowLemmas.{parts_small, mirrored_are}
+use Rattle.whole_transform.proofs.RowLemmas.{high_small, low_small, mirrored_are}
 use Rattle.whole_transform.proofs.lanes.samples_of_sums.Goals as goal
 
 pub mirrored_samples-a-requires-clause-high : goal.mirrored_samples-a-requires-clause-high
-mirrored_samples-a-requires-clause-high c = parts_small 21643 (2 ^ 23 + 2 ^ 13) (pos (2 ^ 23 + 2 ^ 13)) (at c.split.result.0) 0 (lit< tt) (lit≤ tt) c.split.ensures.high
-    (at c.even_part-even_high.result 0) (at c.odd_part-odd_high.result 0) (c.even_part-even_high.ensures.sums 0 (lit< tt)) (c.odd_part-odd_high.ensures.sums 0 (lit< tt))
+mirrored_samples-a-requires-clause-high c = high_small (at c.split.result.0) 0 (lit< tt) c.split.ensures.high _ _ (c.even_part-even_high.ensures.sums 0 (lit< tt)) (c.odd_part-odd_high.ensures.sums 0 (lit< tt))
 
 pub mirrored_samples-a-requires-clause-low : goal.mirrored_samples-a-requires-clause-low
-mirrored_samples-a-requires-clause-low c = parts_small (2 ^ 15) 0 (pos 0) (at c.split.result.1) 0 (lit< tt) (lit≤ tt) c.split.ensures.low
-    (at c.even_part-even_low.result 0) (at c.odd_part-odd_low.result 0) (c.even_part-even_low.ensures.sums 0 (lit< tt)) (c.odd_part-odd_low.ensures.sums 0 (lit< tt))
+mirrored_samples-a-requires-clause-low c = low_small (at c.split.result.1) 0 (lit< tt) c.split.ensures.low _ _ (c.even_part-even_low.ensures.sums 0 (lit< tt)) (c.odd_part-odd_low.ensures.sums 0 (lit< tt))
 
 pub mirrored_samples-b-requires-clause-high : goal.mirrored_samples-b-requires-clause-high
-mirrored_samples-b-requires-clause-high c = parts_small 21643 (2 ^ 23 + 2 ^ 13) (pos (2 ^ 23 + 2 ^ 13)) (at c.split.result.0) 1 (lit< tt) (lit≤ tt) c.split.ensures.high
-    (at c.even_part-even_high.result 1) (at c.odd_part-odd_high.result 1) (c.even_part-even_high.ensures.sums 1 (lit< tt)) (c.odd_part-odd_high.ensures.sums 1 (lit< tt))
+mirrored_samples-b-requires-clause-high c = high_small (at c.split.result.0) 1 (lit< tt) c.split.ensures.high _ _ (c.even_part-even_high.ensures.sums 1 (lit< tt)) (c.odd_part-odd_high.ensures.sums 1 (lit< tt))
 
 pub mirrored_samples-b-requires-clause-low : goal.mirrored_samples-b-requires-clause-low
-mirrored_samples-b-requires-clause-low c = parts_small (2 ^ 15) 0 (pos 0) (at c.split.result.1) 1 (lit< tt) (lit≤ tt) c.split.ensures.low
-    (at c.even_part-even_low.result 1) (at c.odd_part-odd_low.result 1) (c.even_part-even_low.ensures.sums 1 (lit< tt)) (c.odd_part-odd_low.ensures.sums 1 (lit< tt))
+mirrored_samples-b-requires-clause-low c = low_small (at c.split.result.1) 1 (lit< tt) c.split.ensures.low _ _ (c.even_part-even_low.ensures.sums 1 (lit< tt)) (c.odd_part-odd_low.ensures.sums 1 (lit< tt))
 
 pub mirrored_samples-c-requires-clause-high : goal.mirrored_samples-c-requires-clause-high
-mirrored_samples-c-requires-clause-high c = parts_small 21643 (2 ^ 23 + 2 ^ 13) (pos (2 ^ 23 + 2 ^ 13)) (at c.split.result.0) 2 (lit< tt) (lit≤ tt) c.split.ensures.high
-    (at c.even_part-even_high.result 2) (at c.odd_part-odd_high.result 2) (c.even_part-even_high.ensures.sums 2 (lit< tt)) (c.odd_part-odd_high.ensures.sums 2 (lit< tt))
+mirrored_samples-c-requires-clause-high c = high_small (at c.split.result.0) 2 (lit< tt) c.split.ensures.high _ _ (c.even_part-even_high.ensures.sums 2 (lit< tt)) (c.odd_part-odd_high.ensures.sums 2 (lit< tt))
 
 pub mirrored_samples-c-requires-clause-low : goal.mirrored_samples-c-requires-clause-low
-mirrored_samples-c-requires-clause-low c = parts_small (2 ^ 15) 0 (pos 0) (at c.split.result.1) 2 (lit< tt) (lit≤ tt) c.split.ensures.low
-    (at c.even_part-even_low.result 2) (at c.odd_part-odd_low.result 2) (c.even_part-even_low.ensures.sums 2 (lit< tt)) (c.odd_part-odd_low.ensures.sums 2 (lit< tt))
+mirrored_samples-c-requires-clause-low c = low_small (at c.split.result.1) 2 (lit< tt) c.split.ensures.low _ _ (c.even_part-even_low.ensures.sums 2 (lit< tt)) (c.odd_part-odd_low.ensures.sums 2 (lit< tt))
 
 pub mirrored_samples-d-requires-clause-high : goal.mirrored_samples-d-requires-clause-high
-mirrored_samples-d-requires-clause-high c = parts_small 21643 (2 ^ 23 + 2 ^ 13) (pos (2 ^ 23 + 2 ^ 13)) (at c.split.result.0) 3 (lit< tt) (lit≤ tt) c.split.ensures.high
-    (at c.even_part-even_high.result 3) (at c.odd_part-odd_high.result 3) (c.even_part-even_high.ensures.sums 3 (lit< tt)) (c.odd_part-odd_high.ensures.sums 3 (lit< tt))
+mirrored_samples-d-requires-clause-high c = high_small (at c.split.result.0) 3 (lit< tt) c.split.ensures.high _ _ (c.even_part-even_high.ensures.sums 3 (lit< tt)) (c.odd_part-odd_high.ensures.sums 3 (lit< tt))
 
 pub mirrored_samples-d-requires-clause-low : goal.mirrored_samples-d-requires-clause-low
-mirrored_samples-d-requires-clause-low c = parts_small (2 ^ 15) 0 (pos 0) (at c.split.result.1) 3 (lit< tt) (lit≤ tt) c.split.ensures.low
-    (at c.even_part-even_low.result 3) (at c.odd_part-odd_low.result 3) (c.even_part-even_low.ensures.sums 3 (lit< tt)) (c.odd_part-odd_low.ensures.sums 3 (lit< tt))
+mirrored_samples-d-requires-clause-low c = low_small (at c.split.result.1) 3 (lit< tt) c.split.ensures.low _ _ (c.even_part-even_low.ensures.sums 3 (lit< tt)) (c.odd_part-odd_low.ensures.sums 3 (lit< tt))
 
 pub returns : goal.returns
 returns c =
