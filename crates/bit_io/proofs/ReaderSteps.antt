@@ -4,8 +4,8 @@ use Rattle.std.proofs.Math.Nat.{zero-div, zero-mul}
 use Rattle.std.proofs.lemmas.List.{length-append, ext_get_or, get_or-replicate}
 use Rattle.bit_io.specs.Bits.{bits, bits_of, zeros}
 use Rattle.bit_io.specs.Read.{Reading, Takes, Reads}
-use Rattle.bit_io.specs.Window.{highest, bits_left}
-use Rattle.bit_io.specs.Laws.{length-bits, length-bits_of, bits-same, bits-zero, same_parts, zeros-add, length-zeros}
+use Rattle.bit_io.specs.inner.Window.{highest, bits_left}
+use Rattle.bit_io.specs.laws.BitLaws.{length-bits, length-bits_of, bits-same, bits-zero, same_parts, zeros-add, length-zeros}
 use Rattle.bit_io.proofs.WindowSteps.{first_bits, upper, length-highest}
 
 -- the first n of the bits shown are read

@@ -6,8 +6,8 @@ use Rattle.std.proofs.lemmas.Nat.{pow-add, shl-shr, shr-shr, shr_split, or_shift
 use Rattle.std.proofs.Math.Nat.{add-zero, mul-mod_left, mul_assoc, add-mul}
 use Rattle.std.proofs.lemmas.Bool.{cases_lt}
 use Rattle.bit_io.specs.Bits.{bits, bits_of, zeros}
-use Rattle.bit_io.specs.Window.{highest, bits_left, IsLoaded, IsReady}
-use Rattle.bit_io.specs.Laws.{length-bits, bits-add, bits-mod, bits-cat, bits-zero, bits_of-word, bits_of-append, take_padded, shl_parts}
+use Rattle.bit_io.specs.inner.Window.{highest, bits_left, IsLoaded, IsReady}
+use Rattle.bit_io.specs.laws.BitLaws.{length-bits, bits-add, bits-mod, bits-cat, bits-zero, bits_of-word, bits_of-append, take_padded, shl_parts}
 
 -- a word with nothing but zeros below s is its upper part, shifted
 pub upper : (word s : ℕ) → word % 2 ^ s ≡ 0 → word ≡ word / 2 ^ s * 2 ^ s

@@ -3,7 +3,7 @@ use Rattle.std.specs.Prelude.{bit_or, bit_and}
 use Rattle.std.proofs.lemmas.List.{length-append, append_assoc, take_all, length-take-le, drop-drop}
 use Rattle.std.proofs.lemmas.Nat.{and_mask}
 use Rattle.bit_io.specs.Bits.{bits, bits_of, zeros}
-use Rattle.bit_io.specs.Laws.{length-bits, length-bits_of, bits-add, bits-mod, bits-put, bits-shl, take_padded}
+use Rattle.bit_io.specs.laws.BitLaws.{length-bits, length-bits_of, bits-add, bits-mod, bits-put, bits-shl, take_padded}
 
 -- bits that are stored, and bits that wait
 pub length-put : (at count acc : ℕ) (out : List ℕ) → at ≤ length out → length (bits_of (take at out) ++ bits count acc) ≡ 8 * at + count

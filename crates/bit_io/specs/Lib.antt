@@ -1,5 +1,5 @@
 pub mod Bits
-pub mod Laws
 pub mod Read
-pub mod Window
 pub mod Written
+pub mod inner
+pub mod laws

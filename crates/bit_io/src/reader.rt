@@ -24,7 +24,7 @@ pub struct BitReader<'a> {
 impl<'a> Model for BitReader<'a> {
     ghost use Rattle.std.specs.Prelude.{◌*◌, ◌-◌};
     ghost use Rattle.bit_io.specs.Read.{Reading};
-    ghost use Rattle.bit_io.specs.Window.{IsLoaded, IsReady, bits_left};
+    ghost use Rattle.bit_io.specs.inner.Window.{IsLoaded, IsReady, bits_left};
 
     ghost Value = { Reading };
 

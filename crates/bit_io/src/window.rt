@@ -1,6 +1,6 @@
 ghost use Rattle.std.specs.Prelude.{◌≡◌, ◌+◌, ◌-◌, ◌*◌, ◌%◌, ◌^◌, ◌<◌, ◌≤◌, ◌↔◌, IsTrue, length};
 ghost use Rattle.bit_io.specs.Bits.{zeros};
-ghost use Rattle.bit_io.specs.Window.{IsLoaded, IsReady, highest, bits_left};
+ghost use Rattle.bit_io.specs.inner.Window.{IsLoaded, IsReady, highest, bits_left};
 
 /// The next bits of a slice.
 #[derive(Drop)]

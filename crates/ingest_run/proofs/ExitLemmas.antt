@@ -1,163 +1,251 @@
--- The exits of `wrap`, over a source that tells its bytes or doesn't, and their causes.
-use Rattle.std.proofs.Common.{◌≡◌, ◌≢◌, ℕ, ◌<◌, List, [], ◌∷◌, ◌++◌, length, Option, Some, None, Ok, Err, refl, sym, ap, ◌∙◌, subst, arith, inl, inr, ◌⊎◌}
-use Rattle.std.proofs.lemmas.Bool.{cases_eq}
+-- What the loop of `wrap` keeps, and what its exits say, over a source that tells its bytes or doesn't.
+use Rattle.std.proofs.Common.{◌≡◌, ℕ, List, [], ◌∷◌, ◌++◌, length, Option, Some, None, Ok, Err, refl, sym, ap, ◌∙◌, subst, append_assoc, inl, inr, arith}
+use Rattle.std.proofs.lemmas.List.{append-nil}
 use Rattle.rec_bytes.specs.Configuration.{Fields}
 use Rattle.rec_bytes.specs.declared.status.Status.{Status}
+use Rattle.raw_feed.specs.declared.kind.Kind.{Kind}
+use Rattle.raw_feed.specs.declared.kind.Kind.TheVariants.{Units}
 use Rattle.raw_feed.specs.declared.fault.FeedFault.{FeedFault}
 use Rattle.raw_feed.specs.declared.fault.FeedFault.TheVariants.{Memory}
 use Rattle.raw_feed.specs.declared.stage.Stage.TheVariants.{Open}
-use Rattle.raw_feed.specs.Faults.{Rose}
 use Rattle.raw_feed.specs.Told.{Told}
 use Rattle.raw_feed.specs.Written.{Writes}
-use Rattle.raw_feed.specs.Items.{Broken}
-use Rattle.raw_feed.specs.Breaks.{HasFeedCause}
-use Rattle.raw_feed.specs.Reading.{Reading, IfTold, ReadsHead, BreaksHead, GivesUnit}
-use Rattle.take_core.specs.declared.place.Place.{Place}
-use Rattle.ingest_run.specs.Statuses.{feed_answer, sink_answer}
-use Rattle.ingest_run.specs.Runs.{Wraps, Runs}
-use Rattle.ingest_run.specs.Causes.{HasFeedCauses}
-use Rattle.ingest_run.specs.Steps.{StopsBy, EndsFeed, HasEndCause}
-use Rattle.ingest_run.proofs.EndLemmas.{cause-fault}
-use Rattle.ingest_run.proofs.PassLemmas.{Passed, Passed-none, Passed-more}
-use Rattle.ingest_run.proofs.RunLemmas.{IsStop, Runs-head, Runs-none, Runs-file_head, Runs-unit, Runs-no_tail, Runs-tail, Runs-closed}
+use Rattle.raw_feed.specs.Items.{Ending, Clean, Broken}
+use Rattle.raw_feed.specs.Breaks.{IsBreak, BreaksHead}
+use Rattle.raw_feed.specs.HasRead.{HasRead, EndsFeed}
+use Rattle.raw_feed.specs.Reading.{Reading, IfTold, ReadsHead}
+use Rattle.take_layout.specs.declared.place.Place.{Place}
+use Rattle.run_parts.specs.declared.end.PutFault.{PutFault}
+use Rattle.run_parts.specs.declared.end.PutFault.TheVariants.{Memory as NoMemory, Sink}
+use Rattle.run_parts.specs.Causes.{Puts}
+use Rattle.run_parts.specs.Statuses.{feed_answer, ending_answer, end_answer}
+use Rattle.ingest_run.specs.Runs.{Wraps, KeepsPace, Gains, Outside, RunsOver, Runs}
+use Rattle.ingest_run.specs.inner.Steps.{StaysSilent, ReadsUnit, EndsReading}
+use Rattle.ingest_run.proofs.GainLemmas.{Gains-nil, Gains-first, Gains-first_front, Gains-more, Gains-front, Gains-put, Lacks-more}
+use Rattle.ingest_run.proofs.RunLemmas.{FeedsAreOne, IsStop, AllButLast, over-told, but_none, but_whole, but_last, runs_head, runs_stopped, runs_closed, stopped-clean}
 
--- what is told where the reader stands
-abbrev pub PassedOn : (Fields → List (List ℕ) → List Place) → (Fields → List (List ℕ) → List ℕ) → Reading → List Place → Option Told → Option Told → Option (List ℕ) → Option (List ℕ) → Type 0
-PassedOn places_of growing reading places told now old w = IfTold told now (λ before. Passed places_of growing reading places before now old w)
+-- the laws of a layout that the loop rests on
+pub record GrowsSo (head : Fields → List ℕ) (lead : Fields → List (List ℕ) → ℕ → List ℕ) (tail growing closed : Fields → List (List ℕ) → List ℕ) (places_of : Fields → List (List ℕ) → List Place) : Type 0 where
+  pub starts : (cfg : Fields) → growing cfg [] ≡ head cfg
+  pub grows : (cfg : Fields) (units : List (List ℕ)) (unit : List ℕ) → growing cfg (units ++ unit ∷ []) ≡ growing cfg units ++ (lead cfg units (length unit) ++ unit)
+  pub closes : (cfg : Fields) (units : List (List ℕ)) → closed cfg units ≡ growing cfg units ++ tail cfg units
+  pub no_places : (cfg : Fields) → places_of cfg [] ≡ []
 
--- what is told where the run ends
-abbrev pub RunOn : (Fields → List (List ℕ) → List ℕ) → Option Told → Option Told → Option (List ℕ) → Option (List ℕ) → Status → Type 0
-RunOn closed told now old w status = IfTold told now (λ before. Runs (Wraps closed) before now old w status)
+-- where a reader stops for no reason that stands in the bytes
+abbrev pub StopsSo : Type 0
+StopsSo = (reading : Reading) (units : List (List ℕ)) (before : Told) (now : Option Told) (fault : FeedFault)
+    → HasRead reading units before now → reading.stage ≡ Open → (IsBreak fault → ⊥) → EndsFeed reading.kind reading.config units (Broken fault) before now
 
--- what isn't told before isn't told after
-untold : (mid now : Option Told) (P : Told → Type 0) → mid ≡ None → IfTold mid now P → now ≡ None
-untold None now P e h = h
-untold (Some x) now P e h = absurd (cc)
+-- the head was read
+abbrev pub StartsSo : Type 0
+StartsSo = (kind : Kind) (new : Reading) (before : Told) (now : Option Told) → ReadsHead kind new (Some before) now → HasRead new [] before now
 
-pub on-head : (closed : Fields → List (List ℕ) → List ℕ) (told now : Option Told) (w : Option (List ℕ)) (fault : FeedFault) → IfTold told now (λ before. BreaksHead before now fault) → RunOn closed told now w w (feed_answer fault)
-on-head closed None now w fault b = b
-on-head closed (Some before) now w fault b = Runs-head closed before w now fault b
+-- the growing file of the units that were read was written
+pub record Passed (places_of : Fields → List (List ℕ) → List Place) (growing : Fields → List (List ℕ) → List ℕ) (reading : Reading) (places : List Place) (before : Told) (now : Option Told) (old new : Option (List ℕ)) : Type 0 where
+  pub units : List (List ℕ)
+  pub has : HasRead reading units before now
+  pub lie : places ≡ places_of reading.config units
+  pub wrote : Gains old new (growing reading.config units)
 
-pub on-none : (closed : Fields → List (List ℕ) → List ℕ) (reading : Reading) (told now : Option Told) (w : Option (List ℕ)) (status : Status) → ReadsHead reading told now → IsStop status → RunOn closed told now w w status
-on-none closed reading None now w status r stop = r.1
-on-none closed reading (Some before) now w status r stop = Runs-none closed reading before now w status r stop
+-- the bytes given so far are a feed of these units that stopped, and end cleanly
+abbrev IsStopped : Kind → Fields → List (List ℕ) → Told → Option Told → Type 0
+IsStopped kind config units told now = (e : EndsFeed kind config units (Broken Memory) told now) × (e.ending ≡ Clean)
 
-pub on-file_head : (E : Type 0) (head : Fields → List ℕ) (growing tail closed : Fields → List (List ℕ) → List ℕ) (cfg : Fields) (reading : Reading) (told now : Option Told) (w w' : Option (List ℕ)) (e : E) (status : Status)
-    → ((cfg : Fields) → growing cfg [] ≡ head cfg) → ((cfg : Fields) (units : List (List ℕ)) → closed cfg units ≡ growing cfg units ++ tail cfg units) → cfg ≡ reading.config
-    → ReadsHead reading told now → IsStop status → Writes w w' (Err e) (head cfg) → RunOn closed told now w w' status
-on-file_head E head growing tail closed cfg reading None now w w' e status starts closes is r stop wrote = r.1
-on-file_head E head growing tail closed cfg reading (Some before) now w w' e status starts closes is r stop wrote =
-    Runs-file_head E head growing tail closed reading before now w w' e status starts closes r stop (subst (λ (c : Fields). Writes w w' (Err e) (head c)) is wrote)
+-- the bytes given so far stop a feed of these units
+stopped-at : FeedsAreOne → StopsSo → (reading : Reading) (units : List (List ℕ)) (told : Told) (now : Option Told) → reading.kind ≡ Units → reading.stage ≡ Open → HasRead reading units told now → IsStopped Units reading.config units told now
+stopped-at one stops reading units told now kind open_is has =
+    let ended = stops reading units told now Memory has open_is (λ shown. shown) in
+    subst (λ (k : Kind). IsStopped k reading.config units told now) kind (ended, stopped-clean reading units told now (Broken Memory) one open_is has ended)
 
-pub on-start : (E : Type 0) (places_of : Fields → List (List ℕ) → List Place) (growing : Fields → List (List ℕ) → List ℕ) (head : Fields → List ℕ) (cfg : Fields) (reading : Reading) (places : List Place) (told now : Option Told) (w w' : Option (List ℕ))
-    → ((cfg : Fields) → growing cfg [] ≡ head cfg) → ((cfg : Fields) → places_of cfg [] ≡ []) → cfg ≡ reading.config → places ≡ []
-    → ReadsHead reading told now → Writes {E = E} w w' (Ok tt) (head cfg) → PassedOn places_of growing reading places told now w w'
-on-start E places_of growing head cfg reading places None now w w' starts no_places is none r wrote = r.1
-on-start E places_of growing head cfg reading places (Some before) now w w' starts no_places is none r wrote =
-    Passed-none E places_of growing head reading places before now w w' starts no_places none r (subst (λ (c : Fields). Writes {E = E} w w' (Ok tt) (head c)) is wrote)
+-- the head was read
+pub on_head : StartsSo → (reading : Reading) (told now : Option Told) → ReadsHead Units reading told now → IfTold told now (λ before. HasRead reading [] before now)
+on_head starts reading None now reads = reads.1
+on_head starts reading (Some before) now reads = starts Units reading before now reads
 
--- the place of the units of a configuration, and what is written behind them
-at-config : (places_of : Fields → List (List ℕ) → List Place) (cfg config : Fields) (places : List Place) (units : List (List ℕ)) → cfg ≡ config → places ≡ places_of config units → places ≡ places_of cfg units
-at-config places_of cfg config places units is lie = lie ∙ ap (λ (c : Fields). places_of c units) (sym is)
+-- and the file's head was written
+pub on_start : (E : Type 0) (head : Fields → List ℕ) (lead : Fields → List (List ℕ) → ℕ → List ℕ) (tail growing closed : Fields → List (List ℕ) → List ℕ) (places_of : Fields → List (List ℕ) → List Place) (cfg : Fields) (reading : Reading) (places : List Place) (told now : Option Told) (w w' : Option (List ℕ))
+    → GrowsSo head lead tail growing closed places_of → cfg ≡ reading.config → places ≡ [] → IfTold told now (λ before. HasRead reading [] before now) → Writes {E = E} w w' (Ok tt) (head cfg)
+    → IfTold told now (λ before. Passed places_of growing reading places before now w w')
+on_start E head lead tail growing closed places_of cfg reading places told now w w' laws is none has wrote =
+    over-told told now now (λ before. HasRead reading [] before now) (λ before. Passed places_of growing reading places before now w w') has (λ e. e) (λ before h. record {
+      units = [];
+      has = h;
+      lie = none ∙ sym (laws.no_places reading.config);
+      wrote = subst (λ (xs : List ℕ). Gains w w' xs) (ap head is ∙ sym (laws.starts reading.config)) (Gains-first E w w' (head cfg) wrote);
+    })
 
-pub on-unit : (E : Type 0) (places_of : Fields → List (List ℕ) → List Place) (growing : Fields → List (List ℕ) → List ℕ) (lead : Fields → List (List ℕ) → ℕ → List ℕ) (cfg : Fields) (reading new : Reading) (places places' : List Place) (told mid now : Option Told) (old w w' : Option (List ℕ)) (unit : List ℕ)
-    → ((cfg : Fields) (units : List (List ℕ)) (unit : List ℕ) → growing cfg (units ++ unit ∷ []) ≡ growing cfg units ++ (lead cfg units (length unit) ++ unit)) → cfg ≡ reading.config
-    → PassedOn places_of growing reading places told mid old w → GivesUnit Open reading new mid now unit → reading.count < reading.config.max_frames
+-- a unit was read, and it was written behind its lead
+pub on_unit : (E : Type 0) (head : Fields → List ℕ) (lead : Fields → List (List ℕ) → ℕ → List ℕ) (tail growing closed : Fields → List (List ℕ) → List ℕ) (places_of : Fields → List (List ℕ) → List Place) (cfg : Fields) (reading new : Reading) (places places' : List Place) (told mid now : Option Told) (old w w' : Option (List ℕ)) (unit : List ℕ)
+    → GrowsSo head lead tail growing closed places_of → cfg ≡ reading.config → IfTold told mid (λ before. Passed places_of growing reading places before mid old w)
+    → StaysSilent mid now → ReadsUnit reading new mid now unit
     → ((units : List (List ℕ)) → places ≡ places_of cfg units → places' ≡ places_of cfg (units ++ unit ∷ []))
     → ((units : List (List ℕ)) → places ≡ places_of cfg units → Writes {E = E} w w' (Ok tt) (lead cfg units (length unit) ++ unit))
-    → PassedOn places_of growing new places' told now old w'
-on-unit E places_of growing lead cfg reading new places places' None mid now old w w' unit grows is p gives room placed wrote = untold mid now _ p gives.3
-on-unit E places_of growing lead cfg reading new places places' (Some before) mid now old w w' unit grows is p gives room placed wrote =
-    let lie = at-config places_of cfg reading.config places p.units is p.lie in
-    Passed-more E places_of growing lead reading new places places' before mid now old w w' unit grows p gives room
-    (placed p.units lie ∙ ap (λ (c : Fields). places_of c (p.units ++ unit ∷ [])) is)
-    (subst (λ (c : Fields). Writes {E = E} w w' (Ok tt) (lead c p.units (length unit) ++ unit)) is (wrote p.units lie))
-
-pub on-unit_stop : (E : Type 0) (places_of : Fields → List (List ℕ) → List Place) (lead : Fields → List (List ℕ) → ℕ → List ℕ) (growing tail closed : Fields → List (List ℕ) → List ℕ) (cfg : Fields) (reading new : Reading) (places : List Place) (told mid now : Option Told) (old w w' : Option (List ℕ)) (unit : List ℕ) (e : E) (status : Status)
-    → ((cfg : Fields) (units : List (List ℕ)) (unit : List ℕ) → growing cfg (units ++ unit ∷ []) ≡ growing cfg units ++ (lead cfg units (length unit) ++ unit))
-    → ((cfg : Fields) (units : List (List ℕ)) → closed cfg units ≡ growing cfg units ++ tail cfg units) → cfg ≡ reading.config
-    → PassedOn places_of growing reading places told mid old w → GivesUnit Open reading new mid now unit → reading.count < reading.config.max_frames → IsStop status
-    → ((units : List (List ℕ)) → places ≡ places_of cfg units → Writes w w' (Err e) (lead cfg units (length unit) ++ unit)) → RunOn closed told now old w' status
-on-unit_stop E places_of lead growing tail closed cfg reading new places None mid now old w w' unit e status grows closes is p gives room stop wrote = untold mid now _ p gives.3
-on-unit_stop E places_of lead growing tail closed cfg reading new places (Some before) mid now old w w' unit e status grows closes is p gives room stop wrote =
-    Runs-unit E places_of lead growing tail closed reading new places before mid now old w w' unit e status grows closes p gives room stop
-    (subst (λ (c : Fields). Writes w w' (Err e) (lead c p.units (length unit) ++ unit)) is (wrote p.units (at-config places_of cfg reading.config places p.units is p.lie)))
-
-pub on-no_tail : (places_of : Fields → List (List ℕ) → List Place) (growing tail closed : Fields → List (List ℕ) → List ℕ) (reading : Reading) (places : List Place) (told mid now : Option Told) (old w : Option (List ℕ)) (status : Status)
-    → ((cfg : Fields) (units : List (List ℕ)) → closed cfg units ≡ growing cfg units ++ tail cfg units)
-    → PassedOn places_of growing reading places told mid old w → IfTold mid now (λ b. EndsFeed reading b now status) → IsStop status → RunOn closed told now old w status
-on-no_tail places_of growing tail closed reading places None mid now old w status closes p ends stop = untold mid now _ p ends
-on-no_tail places_of growing tail closed reading places (Some before) mid now old w status closes p ends stop =
-    Runs-no_tail places_of growing tail closed reading places before mid now old w status closes p ends stop
-
-pub on-tail : (E : Type 0) (places_of : Fields → List (List ℕ) → List Place) (growing tail closed : Fields → List (List ℕ) → List ℕ) (cfg : Fields) (reading : Reading) (places : List Place) (told mid now : Option Told) (old w w' : Option (List ℕ)) (err : E) (status stop : Status)
-    → ((cfg : Fields) (units : List (List ℕ)) → closed cfg units ≡ growing cfg units ++ tail cfg units) → cfg ≡ reading.config
-    → PassedOn places_of growing reading places told mid old w → IfTold mid now (λ b. EndsFeed reading b now status) → IsStop stop
-    → ((units : List (List ℕ)) → places ≡ places_of cfg units → Writes w w' (Err err) (tail cfg units)) → RunOn closed told now old w' stop
-on-tail E places_of growing tail closed cfg reading places None mid now old w w' err status stop closes is p ends stops wrote = untold mid now _ p ends
-on-tail E places_of growing tail closed cfg reading places (Some before) mid now old w w' err status stop closes is p ends stops wrote =
-    Runs-tail E places_of growing tail closed reading places before mid now old w w' err status stop closes p ends stops
-    (subst (λ (c : Fields). Writes w w' (Err err) (tail c p.units)) is (wrote p.units (at-config places_of cfg reading.config places p.units is p.lie)))
-
-pub on-closed : (E : Type 0) (places_of : Fields → List (List ℕ) → List Place) (growing tail closed : Fields → List (List ℕ) → List ℕ) (cfg : Fields) (reading : Reading) (places : List Place) (told mid now : Option Told) (old w w' : Option (List ℕ)) (status : Status)
-    → ((cfg : Fields) (units : List (List ℕ)) → closed cfg units ≡ growing cfg units ++ tail cfg units) → cfg ≡ reading.config
-    → PassedOn places_of growing reading places told mid old w → IfTold mid now (λ b. EndsFeed reading b now status)
-    → ((units : List (List ℕ)) → places ≡ places_of cfg units → Writes {E = E} w w' (Ok tt) (tail cfg units)) → RunOn closed told now old w' status
-on-closed E places_of growing tail closed cfg reading places None mid now old w w' status closes is p ends wrote = untold mid now _ p ends
-on-closed E places_of growing tail closed cfg reading places (Some before) mid now old w w' status closes is p ends wrote =
-    Runs-closed E places_of growing tail closed reading places before mid now old w w' status closes p ends
-    (subst (λ (c : Fields). Writes {E = E} w w' (Ok tt) (tail c p.units)) is (wrote p.units (at-config places_of cfg reading.config places p.units is p.lie)))
-
--- writing stopped for want of memory or by the sink
-pub is-stop : (before now : ℕ) (status : Status) → StopsBy before now (Err status) → IsStop status
-is-stop before now status (inl (e, k)) = inl (ap (λ (s : Status). s.code) e)
-is-stop before now status (inr (e, k)) = inr (ap (λ (s : Status). s.code) e)
-
--- the causes of the answer where the feed's end was read, and nothing of the sink failed
-pub causes-end : (source source_now sink sink_now : ℕ) (status : Status) → HasEndCause source source_now status → sink_now ≡ sink → HasFeedCauses source source_now sink sink_now status
-causes-end source source_now sink sink_now status c k = record {
-  answered = inl c.answered;
-  source = c.source;
-  source_kept = λ e. inl (c.source_kept e);
-  sink = λ e. absurd (c.no_sink e);
-  sink_kept = λ e. k;
-}
-
--- the causes of the answer for a head that is refused
-pub causes-head : (T : Type 0) (source source_now sink : ℕ) (fault : FeedFault) → HasFeedCause {T = T} source source_now (Err fault) → HasFeedCauses source source_now sink sink (feed_answer fault)
-causes-head T source source_now sink fault c = causes-end source source_now sink sink (feed_answer fault) (cause-fault T source source_now fault c) refl
-
--- the causes of the answer for writing that stopped, before the feed's end was read
-pub causes-stop : (source source_now sink sink_now : ℕ) (status : Status) → source_now ≡ source → StopsBy sink sink_now (Err status) → HasFeedCauses source source_now sink sink_now status
-causes-stop source source_now sink sink_now status s (inl (e, k)) =
-    let code : status.code ≡ 1 = ap (λ (s : Status). s.code) e in
+    → IfTold told now (λ before. Passed places_of growing new places' before now old w')
+on_unit E head lead tail growing closed places_of cfg reading new places places' told mid now old w w' unit laws is p silent reads placed wrote =
+    over-told told mid now (λ before. Passed places_of growing reading places before mid old w) (λ before. Passed places_of growing new places' before now old w') p silent (λ before p.
+    let lie = p.lie ∙ ap (λ (c : Fields). places_of c p.units) (sym is) in
+    let same : new.config ≡ cfg = reads.config ∙ sym is in
+    let units = p.units ++ unit ∷ [] in
+    let gains : Gains old w (growing cfg p.units) = subst (λ (c : Fields). Gains old w (growing c p.units)) (sym is) p.wrote in
     record {
-      answered = inl (0, Broken Memory, e);
-      source = λ five. absurd (omega arith);
-      source_kept = λ five. inl s;
-      sink = λ seven. absurd (omega arith);
-      sink_kept = λ seven. k;
-    }
-causes-stop source source_now sink sink_now status s (inr (e, rose)) =
-    let code : status.code ≡ 7 = ap (λ (s : Status). s.code) e in
-    record {
-      answered = inr e;
-      source = λ five. absurd (omega arith);
-      source_kept = λ five. inl s;
-      sink = λ seven. rose;
-      sink_kept = λ seven. absurd (seven code);
-    }
+      units = units;
+      has = reads.grows p.units before p.has;
+      lie = placed p.units lie ∙ ap (λ (c : Fields). places_of c units) (sym same);
+      wrote = subst (λ (c : Fields). Gains old w' (growing c units)) (sym same)
+          (subst (λ (xs : List ℕ). Gains old w' xs) (sym (laws.grows cfg p.units unit)) (Gains-more E old w w' (growing cfg p.units) (lead cfg p.units (length unit) ++ unit) gains (wrote p.units lie)));
+    })
 
--- and where the sink failed in the tail, after the source had maybe failed
-pub causes-tail : (source source_now sink sink_now : ℕ) (status : Status) → HasEndCause source source_now status → Rose sink sink_now → HasFeedCauses source source_now sink sink_now (sink_answer sink_now)
-causes-tail source source_now sink sink_now status c rose = record {
-  answered = inr refl;
-  source = λ five. absurd (omega arith);
-  source_kept = λ five. kept (cases_eq status.code 5);
-  sink = λ seven. rose;
-  sink_kept = λ seven. absurd (seven refl);
-}
-  where
-    kept : (status.code ≡ 5) ⊎ (status.code ≢ 5) → (source_now ≡ source) ⊎ (((sink_answer sink_now).code ≡ 7) × Rose source source_now)
-    kept (inl five) = inr (refl, (c.source five).1)
-    kept (inr other) = inl (c.source_kept other)
+-- the head was refused
+pub exit_refused : (growing closed : Fields → List (List ℕ) → List ℕ) (fault : FeedFault) (before now : Outside) → FeedsAreOne → now.written ≡ before.written
+    → IfTold before.told now.told (λ told. BreaksHead Units told now.told fault) → Runs (Wraps closed) (KeepsPace growing) before now (feed_answer fault)
+exit_refused growing closed fault before now one same b =
+    over-told before.told now.told now.told (λ told. BreaksHead Units told now.told fault) (λ told. RunsOver (Wraps closed) (KeepsPace growing) told before now (feed_answer fault)) b (λ e. e)
+    (λ told h. runs_head growing closed fault told before now one same h)
+
+-- nothing was written behind the feed's head
+pub exit_none : (growing closed : Fields → List (List ℕ) → List ℕ) (reading : Reading) (before now : Outside) (status : Status) → FeedsAreOne → StopsSo → reading.kind ≡ Units → reading.stage ≡ Open → now.written ≡ before.written
+    → IfTold before.told now.told (λ told. HasRead reading [] told now.told) → status.code ≡ 1 → Runs (Wraps closed) (KeepsPace growing) before now status
+exit_none growing closed reading before now status one stops kind open_is same has first =
+    over-told before.told now.told now.told (λ told. HasRead reading [] told now.told) (λ told. RunsOver (Wraps closed) (KeepsPace growing) told before now status) has (λ e. e)
+    (λ told h.
+    let stopped = stopped-at one stops reading [] told now.told kind open_is h in
+    runs_stopped growing closed reading.config [] (Broken Memory) told before now status one stopped.0
+    (record {
+      written = [];
+      missing = closed reading.config [];
+      gains = subst (λ (w : Option (List ℕ)). Gains before.written w []) (sym same) (Gains-nil before.written);
+      front = refl;
+      begun = but_none growing reading.config [];
+      ahead = λ unclean. absurd (unclean stopped.1);
+      cut = λ seven. absurd (omega arith);
+    }) (inl first))
+
+-- the sink failed inside the file's head
+pub exit_file_head : (E : Type 0) (head : Fields → List ℕ) (lead : Fields → List (List ℕ) → ℕ → List ℕ) (tail growing closed : Fields → List (List ℕ) → List ℕ) (places_of : Fields → List (List ℕ) → List Place) (cfg : Fields) (reading : Reading) (e : E) (before now : Outside) (status : Status)
+    → GrowsSo head lead tail growing closed places_of → FeedsAreOne → StopsSo → reading.kind ≡ Units → reading.stage ≡ Open → cfg ≡ reading.config
+    → IfTold before.told now.told (λ told. HasRead reading [] told now.told) → Writes before.written now.written (Err e) (head cfg) → IsStop status → Runs (Wraps closed) (KeepsPace growing) before now status
+exit_file_head E head lead tail growing closed places_of cfg reading e before now status laws one stops kind open_is is has wrote stop =
+    let piece = Gains-first_front before.written now.written e (head cfg) wrote in
+    let c = reading.config in
+    let whole : closed c [] ≡ piece.0 ++ (piece.1 ++ tail c []) =
+    laws.closes c [] ∙ (ap (λ (xs : List ℕ). xs ++ tail c []) (laws.starts c ∙ (ap head (sym is) ∙ piece.2)) ∙ append_assoc piece.0 piece.1 (tail c [])) in
+    over-told before.told now.told now.told (λ told. HasRead reading [] told now.told) (λ told. RunsOver (Wraps closed) (KeepsPace growing) told before now status) has (λ e. e)
+    (λ told h.
+    let stopped = stopped-at one stops reading [] told now.told kind open_is h in
+    runs_stopped growing closed c [] (Broken Memory) told before now status one stopped.0
+    (record {
+      written = piece.0;
+      missing = piece.1 ++ tail c [];
+      gains = piece.3;
+      front = whole;
+      begun = but_none growing c piece.0;
+      ahead = λ unclean. absurd (unclean stopped.1);
+      cut = λ seven. Lacks-more before.written piece.1 (tail c []) piece.4;
+    }) stop)
+
+-- writing that stopped is answered as a stop
+is_stop_put : (count : ℕ) (fault : PutFault) → IsStop (end_answer count (Err fault))
+is_stop_put count NoMemory = inl refl
+is_stop_put count Sink = inr refl
+
+-- and by 7 only where the sink failed
+is_sink : (count : ℕ) (fault : PutFault) → (end_answer count (Err fault)).code ≡ 7 → fault ≡ Sink
+is_sink count NoMemory seven = absurd (omega arith)
+is_sink count Sink seven = refl
+
+-- writing stopped inside the lead of a unit that was read, or inside the unit
+pub exit_unit : (head : Fields → List ℕ) (lead : Fields → List (List ℕ) → ℕ → List ℕ) (tail growing closed : Fields → List (List ℕ) → List ℕ) (places_of : Fields → List (List ℕ) → List Place) (cfg : Fields) (reading new : Reading) (places : List Place) (mid : Option Told) (w : Option (List ℕ)) (unit : List ℕ) (e : PutFault) (before now : Outside) (count : ℕ)
+    → GrowsSo head lead tail growing closed places_of → FeedsAreOne → StopsSo → reading.kind ≡ Units → cfg ≡ reading.config
+    → IfTold before.told mid (λ told. Passed places_of growing reading places told mid before.written w) → StaysSilent mid now.told → ReadsUnit reading new mid now.told unit
+    → ((units : List (List ℕ)) → places ≡ places_of cfg units → Puts w now.written (Err e) (lead cfg units (length unit) ++ unit))
+    → Runs (Wraps closed) (KeepsPace growing) before now (end_answer count (Err e))
+exit_unit head lead tail growing closed places_of cfg reading new places mid w unit e before now count laws one stops kind is p silent reads wrote =
+    let status = end_answer count (Err e) in
+    over-told before.told mid now.told (λ told. Passed places_of growing reading places told mid before.written w) (λ told. RunsOver (Wraps closed) (KeepsPace growing) told before now status) p silent (λ told p.
+    let lie = p.lie ∙ ap (λ (c : Fields). places_of c p.units) (sym is) in
+    let same : new.config ≡ cfg = reads.config ∙ sym is in
+    let units = p.units ++ unit ∷ [] in
+    let gains : Gains before.written w (growing cfg p.units) = subst (λ (c : Fields). Gains before.written w (growing c p.units)) (sym is) p.wrote in
+    let piece = Gains-put before.written w now.written e (growing cfg p.units) (lead cfg p.units (length unit) ++ unit) gains (wrote p.units lie) in
+    let grown : growing cfg units ≡ (growing cfg p.units ++ piece.0) ++ piece.1 =
+    laws.grows cfg p.units unit ∙ (ap (λ (xs : List ℕ). growing cfg p.units ++ xs) piece.2 ∙ sym (append_assoc (growing cfg p.units) piece.0 piece.1)) in
+    let whole : closed cfg units ≡ (growing cfg p.units ++ piece.0) ++ (piece.1 ++ tail cfg units) =
+    laws.closes cfg units ∙ (ap (λ (xs : List ℕ). xs ++ tail cfg units) grown ∙ append_assoc (growing cfg p.units ++ piece.0) piece.1 (tail cfg units)) in
+    let stopped : IsStopped Units cfg units told now.told =
+    subst (λ (c : Fields). IsStopped Units c units told now.told) same (stopped-at one stops new units told now.told (reads.kind ∙ kind) reads.stage (reads.grows p.units told p.has)) in
+    runs_stopped growing closed cfg units (Broken Memory) told before now status one stopped.0
+    (record {
+      written = growing cfg p.units ++ piece.0;
+      missing = piece.1 ++ tail cfg units;
+      gains = piece.3;
+      front = whole;
+      begun = but_last growing cfg p.units unit piece.0;
+      ahead = λ unclean. absurd (unclean stopped.1);
+      cut = λ seven. Lacks-more before.written piece.1 (tail cfg units) (piece.4 (is_sink count e seven));
+    }) (is_stop_put count e))
+
+-- memory for the next unit was wanted
+pub exit_memory : (head : Fields → List ℕ) (lead : Fields → List (List ℕ) → ℕ → List ℕ) (tail growing closed : Fields → List (List ℕ) → List ℕ) (places_of : Fields → List (List ℕ) → List Place) (reading : Reading) (places : List Place) (mid : Option Told) (before now : Outside) (answered status : Status) (ending : Ending)
+    → GrowsSo head lead tail growing closed places_of → FeedsAreOne → reading.kind ≡ Units
+    → IfTold before.told mid (λ told. Passed places_of growing reading places told mid before.written now.written) → StaysSilent mid now.told → EndsReading reading mid now.told answered ending → status.code ≡ 1
+    → Runs (Wraps closed) (KeepsPace growing) before now status
+exit_memory head lead tail growing closed places_of reading places mid before now answered status ending laws one kind p silent ends first =
+    over-told before.told mid now.told (λ told. Passed places_of growing reading places told mid before.written now.written) (λ told. RunsOver (Wraps closed) (KeepsPace growing) told before now status) p silent (λ told p.
+    let c = reading.config in
+    let same = sym (append-nil (growing c p.units)) in
+    runs_stopped growing closed c p.units ending told before now status one (subst (λ (k : Kind). EndsFeed k c p.units ending told now.told) kind (ends.ends p.units told p.has))
+    (record {
+      written = growing c p.units ++ [];
+      missing = tail c p.units;
+      gains = subst (λ (xs : List ℕ). Gains before.written now.written xs) same p.wrote;
+      front = laws.closes c p.units ∙ ap (λ (xs : List ℕ). xs ++ tail c p.units) same;
+      begun = but_whole growing lead c p.units [] laws.grows;
+      ahead = λ unclean. ([], refl);
+      cut = λ seven. absurd (omega arith);
+    }) (inl first))
+
+-- the feed ended, and the sink failed inside the tail
+pub exit_tail : (E : Type 0) (head : Fields → List ℕ) (lead : Fields → List (List ℕ) → ℕ → List ℕ) (tail growing closed : Fields → List (List ℕ) → List ℕ) (places_of : Fields → List (List ℕ) → List Place) (cfg : Fields) (reading : Reading) (places : List Place) (mid : Option Told) (w : Option (List ℕ)) (e : E) (before now : Outside) (answered status : Status) (ending : Ending)
+    → GrowsSo head lead tail growing closed places_of → FeedsAreOne → reading.kind ≡ Units → cfg ≡ reading.config
+    → IfTold before.told mid (λ told. Passed places_of growing reading places told mid before.written w) → StaysSilent mid now.told → EndsReading reading mid now.told answered ending
+    → ((units : List (List ℕ)) → places ≡ places_of cfg units → Writes w now.written (Err e) (tail cfg units)) → IsStop status
+    → Runs (Wraps closed) (KeepsPace growing) before now status
+exit_tail E head lead tail growing closed places_of cfg reading places mid w e before now answered status ending laws one kind is p silent ends wrote stop =
+    over-told before.told mid now.told (λ told. Passed places_of growing reading places told mid before.written w) (λ told. RunsOver (Wraps closed) (KeepsPace growing) told before now status) p silent (λ told p.
+    let lie = p.lie ∙ ap (λ (c : Fields). places_of c p.units) (sym is) in
+    let gains : Gains before.written w (growing cfg p.units) = subst (λ (c : Fields). Gains before.written w (growing c p.units)) (sym is) p.wrote in
+    let piece = Gains-front before.written w now.written e (growing cfg p.units) (tail cfg p.units) gains (wrote p.units lie) in
+    let whole : closed cfg p.units ≡ (growing cfg p.units ++ piece.0) ++ piece.1 =
+    laws.closes cfg p.units ∙ (ap (λ (xs : List ℕ). growing cfg p.units ++ xs) piece.2 ∙ sym (append_assoc (growing cfg p.units) piece.0 piece.1)) in
+    let ended : EndsFeed Units cfg p.units ending told now.told =
+    subst (λ (c : Fields). EndsFeed Units c p.units ending told now.told) (sym is) (subst (λ (k : Kind). EndsFeed k reading.config p.units ending told now.told) kind (ends.ends p.units told p.has)) in
+    runs_stopped growing closed cfg p.units ending told before now status one ended
+    (record {
+      written = growing cfg p.units ++ piece.0;
+      missing = piece.1;
+      gains = piece.3;
+      front = whole;
+      begun = but_whole growing lead cfg p.units piece.0 laws.grows;
+      ahead = λ unclean. (piece.0, refl);
+      cut = λ seven. piece.4;
+    }) stop)
+
+-- the feed ended, and the tail was written
+pub exit_closed : (E : Type 0) (head : Fields → List ℕ) (lead : Fields → List (List ℕ) → ℕ → List ℕ) (tail growing closed : Fields → List (List ℕ) → List ℕ) (places_of : Fields → List (List ℕ) → List Place) (cfg : Fields) (reading : Reading) (places : List Place) (mid : Option Told) (w : Option (List ℕ)) (before now : Outside) (status : Status) (ending : Ending)
+    → GrowsSo head lead tail growing closed places_of → FeedsAreOne → reading.kind ≡ Units → cfg ≡ reading.config
+    → IfTold before.told mid (λ told. Passed places_of growing reading places told mid before.written w) → StaysSilent mid now.told → EndsReading reading mid now.told status ending
+    → ((units : List (List ℕ)) → places ≡ places_of cfg units → Writes {E = E} w now.written (Ok tt) (tail cfg units))
+    → Runs (Wraps closed) (KeepsPace growing) before now status
+exit_closed E head lead tail growing closed places_of cfg reading places mid w before now status ending laws one kind is p silent ends wrote =
+    over-told before.told mid now.told (λ told. Passed places_of growing reading places told mid before.written w) (λ told. RunsOver (Wraps closed) (KeepsPace growing) told before now status) p silent (λ told p.
+    let lie = p.lie ∙ ap (λ (c : Fields). places_of c p.units) (sym is) in
+    let gains : Gains before.written w (growing cfg p.units) = subst (λ (c : Fields). Gains before.written w (growing c p.units)) (sym is) p.wrote in
+    let closes = sym (laws.closes cfg p.units) in
+    let ended : EndsFeed Units cfg p.units ending told now.told =
+    subst (λ (c : Fields). EndsFeed Units c p.units ending told now.told) (sym is) (subst (λ (k : Kind). EndsFeed k reading.config p.units ending told now.told) kind (ends.ends p.units told p.has)) in
+    let status_is : ending_answer (length p.units) ending ≡ status = sym (ends.answered ∙ ap (λ (n : ℕ). ending_answer n ending) p.has.counted) in
+    subst (λ (s : Status). RunsOver (Wraps closed) (KeepsPace growing) told before now s) status_is
+    (runs_closed growing closed cfg p.units ending told before now one ended
+    (subst (λ (xs : List ℕ). Gains before.written now.written xs) closes (Gains-more E before.written w now.written (growing cfg p.units) (tail cfg p.units) gains (wrote p.units lie)))
+    (subst (λ (xs : List ℕ). AllButLast growing cfg p.units xs) closes (but_whole growing lead cfg p.units (tail cfg p.units) laws.grows))
+    (tail cfg p.units, laws.closes cfg p.units)))

@@ -1,8 +1,8 @@
 pub mod CommandLemmas
 pub mod EndLemmas
 pub mod ExitLemmas
-pub mod FileLemmas
-pub mod PassLemmas
+pub mod GainLemmas
+pub mod MessageLemmas
+pub mod ProgramLemmas
 pub mod RunLemmas
 pub mod WordsLemmas
-pub mod WritesLemmas

@@ -1,185 +1,365 @@
 -- What each exit of `wrap` says over a source that tells its bytes.
-use Rattle.std.proofs.Common.{◌≡◌, ◌≢◌, ℕ, ◌+◌, ◌<◌, List, [], ◌∷◌, ◌++◌, length, take, drop, Option, Some, Ok, Err, refl, sym, ap, ◌∙◌, subst, append_assoc, inl, inr, ◌⊎◌}
-use Rattle.std.proofs.lemmas.List.{take-append-drop, append-nil}
-use Rattle.std.proofs.Math.Seq.{take-add}
+use Rattle.std.proofs.Common.{◌≡◌, ◌≢◌, ℕ, ◌+◌, List, [], ◌∷◌, ◌++◌, length, take, Option, Some, None, refl, sym, ap, ap₂, ◌∙◌, subst, append_assoc, inl, inr, ◌⊎◌, ⊎_elim, ◌<◌, ◌≤◌, arith}
+use Rattle.std.proofs.lemmas.Bool.{cases_lt}
+use Rattle.std.proofs.lemmas.List.{append-nil, append_cancel_left, length-append, same_from_push}
+use Rattle.std.proofs.lemmas.List.Elements.{All-nil}
+use Rattle.std.specs.List.{flat_map}
 use Rattle.rec_bytes.specs.Configuration.{Fields}
 use Rattle.rec_bytes.specs.declared.status.Status.{Status}
-use Rattle.raw_feed.specs.declared.layout.TheConstants.{HEAD_LEN}
+use Rattle.raw_feed.specs.declared.head.TheConstants.{FEED_HEAD_LEN}
+use Rattle.raw_feed.specs.declared.kind.Kind.{Kind}
+use Rattle.raw_feed.specs.declared.kind.Kind.TheVariants.{Units}
 use Rattle.raw_feed.specs.declared.fault.FeedFault.{FeedFault}
 use Rattle.raw_feed.specs.declared.fault.FeedFault.TheVariants.{Memory, FeedHead, Marker, FeedCut, SourceFault, TooLong, UnitLong}
+use Rattle.raw_feed.specs.declared.stage.Stage.{Stage}
 use Rattle.raw_feed.specs.declared.stage.Stage.TheVariants.{Open}
-use Rattle.raw_feed.specs.Told.{Told, after}
-use Rattle.raw_feed.specs.Written.{Writes}
-use Rattle.raw_feed.specs.Items.{Ending, Clean, Broken}
-use Rattle.raw_feed.specs.Feeds.{IsFeedOf}
-use Rattle.raw_feed.specs.Breaks.{IsBreak}
-use Rattle.raw_feed.specs.Reading.{Reading, IfTold, ReadsHead, BreaksHead, GivesUnit}
-use Rattle.take_core.specs.declared.place.Place.{Place}
-use Rattle.ingest_run.specs.Statuses.{feed_answer, ending_answer}
-use Rattle.ingest_run.specs.Runs.{Wraps, Gains, IsCutShort, Runs}
-use Rattle.ingest_run.specs.Steps.{EndsFeed}
-use Rattle.ingest_run.proofs.PassLemmas.{Passed, after-after, Gains-nil, Gains-more, Gains-front, Gains-first_front, feed-of, feed-more, feed-head}
+use Rattle.raw_feed.specs.Told.{Told}
+use Rattle.raw_feed.specs.Items.{Ending, Clean, Full, Broken, IsSized, item}
+use Rattle.raw_feed.specs.Feeds.{IsFeed, IsFeedOf, EndsInHead}
+use Rattle.raw_feed.specs.Breaks.{IsShown, MayGoOn, Answers, BreaksHead, Gave, judged_to}
+use Rattle.raw_feed.specs.HasRead.{HasRead, EndsFeed, behind_units}
+use Rattle.raw_feed.specs.Reading.{Reading, IfTold, begun}
+use Rattle.run_parts.specs.Statuses.{feed_answer, ending_answer}
+use Rattle.ingest_run.specs.Runs.{Wraps, KeepsPace, Gains, Lacks, IsCutShort, IsOpenEnd, Outside, RunsOver}
+use Rattle.ingest_run.specs.inner.Steps.{StaysSilent}
+use Rattle.ingest_run.proofs.GainLemmas.{Gains-nil}
+
+-- bytes are a feed in one way
+pub record FeedsAreOne : Type 0 where
+  pub units : (kind : Kind) (bytes : List ℕ) (units others : List (List ℕ)) (ending other : Ending)
+      → IsFeed kind bytes units ending → IsFeed kind bytes others other → (units ≡ others) × (ending ≡ other)
+  pub configuration : (kind : Kind) (bytes : List ℕ) (one two : Fields) (units others : List (List ℕ)) (ending other : Ending)
+      → IsFeedOf kind bytes one units ending → IsFeedOf kind bytes two others other → one ≡ two
 
 -- memory was wanted, or the sink failed
 abbrev pub IsStop : Status → Type 0
 IsStop status = (status.code ≡ 1) ⊎ (status.code ≡ 7)
 
--- a front of the closed file was written
-stopped : (closed : Fields → List (List ℕ) → List ℕ) (before : Told) (now : Option Told) (old new : Option (List ℕ)) (status : Status) (count : ℕ) (cfg : Fields) (units : List (List ℕ)) (ending : Ending) (written missing : List ℕ)
-    → now ≡ Some (after count before) → IsFeedOf (take count before.left) cfg units ending → IsStop status → closed cfg units ≡ written ++ missing → Gains old new written → Runs (Wraps closed) before now old new status
-stopped closed before now old new status count cfg units ending written missing gave feed stop front gains = record {
-  count = count;
-  gave = gave;
-  written = written;
-  gains = gains;
-  says = λ whole. absurd (whole (cut stop));
-  whole = closed cfg units;
-  answered = ending_answer (length units) ending;
-  given = inl (record { config = cfg; units = units; ending = ending; feed = feed; file = refl; answered = refl });
-  missing = missing;
-  front = front;
+-- what holds of a source that tells leads to what holds of it later
+pub over-told : (told mid now : Option Told) (P Q : Told → Type 0) → IfTold told mid P → StaysSilent mid now → ((before : Told) → P before → Q before)
+    → IfTold told now Q
+over-told None mid now P Q i silent f = silent i
+over-told (Some before) mid now P Q i silent f = f before i
+
+-- the growing files of units without the last one were written
+abbrev pub AllButLast : (Fields → List (List ℕ) → List ℕ) → Fields → List (List ℕ) → List ℕ → Type 0
+AllButLast growing config units written =
+    (front : List (List ℕ)) (unit : List ℕ) → units ≡ front ++ unit ∷ [] → (rest : List ℕ) × (written ≡ growing config front ++ rest)
+
+-- a list with a last unit isn't empty
+pub not_empty : (front : List (List ℕ)) (unit : List ℕ) → [] ≢ front ++ unit ∷ []
+not_empty front unit e =
+    let none : 0 ≡ length (front ++ unit ∷ []) = ap (length {A = List ℕ}) e in
+    omega (arith, length-append front (unit ∷ []))
+
+pub but_none : (growing : Fields → List (List ℕ) → List ℕ) (config : Fields) (written : List ℕ) → AllButLast growing config [] written
+but_none growing config written front unit e = absurd (not_empty front unit e)
+
+-- all units were written
+pub but_whole : (growing : Fields → List (List ℕ) → List ℕ) (lead : Fields → List (List ℕ) → ℕ → List ℕ) (config : Fields) (units : List (List ℕ)) (rest : List ℕ)
+    → ((cfg : Fields) (units : List (List ℕ)) (unit : List ℕ) → growing cfg (units ++ unit ∷ []) ≡ growing cfg units ++ (lead cfg units (length unit) ++ unit))
+    → AllButLast growing config units (growing config units ++ rest)
+but_whole growing lead config units rest grows front unit e = (
+  (lead config front (length unit) ++ unit) ++ rest,
+  ap (λ (xs : List ℕ). xs ++ rest) (ap (growing config) e ∙ grows config front unit) ∙ append_assoc (growing config front) (lead config front (length unit) ++ unit) rest,
+)
+
+-- all units before the last were written
+pub but_last : (growing : Fields → List (List ℕ) → List ℕ) (config : Fields) (units : List (List ℕ)) (unit rest : List ℕ)
+    → AllButLast growing config (units ++ unit ∷ []) (growing config units ++ rest)
+but_last growing config units unit rest front last e =
+    (rest, ap (λ (us : List (List ℕ)). growing config us ++ rest) (same_from_push units front unit last e).0)
+
+-- all units were written
+abbrev pub AllOf : (Fields → List (List ℕ) → List ℕ) → Fields → List (List ℕ) → List ℕ → Type 0
+AllOf growing config units written = (rest : List ℕ) × (written ≡ growing config units ++ rest)
+
+-- bytes that are a feed of units keep the pace
+paced : (growing : Fields → List (List ℕ) → List ℕ) (given written : List ℕ) (config : Fields) (units : List (List ℕ)) (ending : Ending) → FeedsAreOne
+    → IsFeedOf Units given config units ending → length given ≡ judged_to (behind_units Units units) ending → AllButLast growing config units written
+    → (ending ≢ Clean → AllOf growing config units written) → KeepsPace growing given written
+paced growing given written config units ending one feed reach begun ahead = record {
+  head_judged = λ other head.
+      let s = one.units Units given units [] ending other (inl (config, feed)) (inr (refl, head)) in
+      reach ∙ ap₂ (λ (us : List (List ℕ)) (e : Ending). judged_to (behind_units Units us) e) s.0 s.1;
+  judged = λ cfg others other f.
+      let s = one.units Units given units others ending other (inl (config, feed)) (inl (cfg, f)) in
+      reach ∙ ap₂ (λ (us : List (List ℕ)) (e : Ending). judged_to (behind_units Units us) e) s.0 s.1;
+  prompt = λ cfg front unit other f.
+      let s = one.units Units given units (front ++ unit ∷ []) ending other (inl (config, feed)) (inl (cfg, f)) in
+      let c = one.configuration Units given config cfg units (front ++ unit ∷ []) ending other feed f in
+      let r = begun front unit s.0 in
+      (r.0, r.1 ∙ ap (λ (g : Fields). growing g front ++ r.0) c);
+  ahead = λ cfg others other f unclean.
+      let s = one.units Units given units others ending other (inl (config, feed)) (inl (cfg, f)) in
+      let c = one.configuration Units given config cfg units others ending other feed f in
+      let r = ahead (λ e. unclean (sym s.1 ∙ e)) in
+      (r.0, r.1 ∙ ap₂ (λ (g : Fields) (us : List (List ℕ)). growing g us ++ r.0) c s.0);
+}
+
+-- the head of a feed is a feed of no units
+head-alone : (bytes : List ℕ) (config : Fields) (units : List (List ℕ)) (ending : Ending) → (f : IsFeedOf Units bytes config units ending) → IsFeedOf Units f.head config [] Clean
+head-alone bytes config units ending f =
+    let alone : f.head ++ [] ≡ f.head = append-nil f.head in
+    let long = ap (length {A = ℕ}) alone in
+    let within = f.within in
+    record {
+      head = f.head;
+      rest = [];
+      configured = f.configured;
+      split = sym (append-nil (f.head ++ []) ∙ alone);
+      sized = All-nil (IsSized Units);
+      few = omega arith;
+      within = omega (arith, length-append f.head (flat_map (item Units) units));
+      ends = refl;
+    }
+
+-- so the head is whole
+head-whole : (bytes : List ℕ) (config : Fields) (units : List (List ℕ)) (ending : Ending) → FeedsAreOne → (f : IsFeedOf Units bytes config units ending) → FEED_HEAD_LEN ≤ length f.head
+head-whole bytes config units ending one f = ⊎_elim short (λ whole. whole) (cases_lt (length f.head) FEED_HEAD_LEN)
+  where
+    clean : Clean ≡ Broken (FeedCut (length f.head)) → ⊥
+    clean e = cc
+
+    short : length f.head < FEED_HEAD_LEN → FEED_HEAD_LEN ≤ length f.head
+    short less =
+        let s = one.units Units f.head [] [] Clean (Broken (FeedCut (length f.head))) (inl (config, head-alone bytes config units ending f)) (inr (refl, (refl, less))) in
+        absurd (clean s.1)
+
+-- and no feed ends in its head so
+not-both : (bytes : List ℕ) (config : Fields) (units : List (List ℕ)) (ending : Ending) → FeedsAreOne → EndsInHead Units bytes ending → IsFeedOf Units bytes config units ending → ⊥
+not-both bytes config units Clean one head f = head
+not-both bytes config units Full one head f = head
+not-both bytes config units (Broken Memory) one head f = head
+not-both bytes config units (Broken (FeedHead at)) one head f = f.ends
+not-both bytes config units (Broken (Marker at)) one head f = head
+not-both bytes config units (Broken (FeedCut at)) one head f =
+    let whole = head-whole bytes config units (Broken (FeedCut at)) one f in
+    let long = ap (length {A = ℕ}) f.split in
+    let short = head.1 in
+    omega (arith, length-append (f.head ++ flat_map (item Units) units) f.rest, length-append f.head (flat_map (item Units) units))
+not-both bytes config units (Broken (SourceFault count)) one head f = head
+not-both bytes config units (Broken (TooLong at)) one head f = head
+not-both bytes config units (Broken (UnitLong at)) one head f = head
+
+-- and so do bytes that end in a head
+pub paced-head : (growing : Fields → List (List ℕ) → List ℕ) (given written : List ℕ) (ending : Ending) → FeedsAreOne
+    → EndsInHead Units given ending → length given ≡ judged_to FEED_HEAD_LEN ending → KeepsPace growing given written
+paced-head growing given written ending one head reach = record {
+  head_judged = λ other h.
+      let s = one.units Units given [] [] ending other (inr (refl, head)) (inr (refl, h)) in
+      reach ∙ ap (judged_to FEED_HEAD_LEN) s.1;
+  judged = λ cfg others other f.
+      let s = one.units Units given [] others ending other (inr (refl, head)) (inl (cfg, f)) in
+      reach ∙ ap₂ (λ (us : List (List ℕ)) (e : Ending). judged_to (behind_units Units us) e) s.0 s.1;
+  prompt = λ cfg front unit other f.
+      let s = one.units Units given [] (front ++ unit ∷ []) ending other (inr (refl, head)) (inl (cfg, f)) in
+      absurd (not_empty front unit s.0);
+  ahead = λ cfg others other f unclean.
+      let s = one.units Units given [] others ending other (inr (refl, head)) (inl (cfg, f)) in
+      absurd (not-both given cfg others other one (subst (λ (e : Ending). EndsInHead Units given e) s.1 head) f);
+}
+
+-- what was written of the closed file of units, whose feed ended so, and what the answer says of it
+pub record WritesFront (growing closed : Fields → List (List ℕ) → List ℕ) (config : Fields) (units : List (List ℕ)) (ending : Ending) (status : Status) (old new : Option (List ℕ)) : Type 0 where
+  pub written : List ℕ
+  pub missing : List ℕ
+  pub gains : Gains old new written
+  pub front : closed config units ≡ written ++ missing
+  pub begun : AllButLast growing config units written
+  pub ahead : ending ≢ Clean → AllOf growing config units written
+  pub cut : status.code ≡ 7 → Lacks old missing
+
+-- the bytes that were given
+abbrev given-of : Option Told → List ℕ
+given-of None = []
+given-of (Some told) = told.given
+
+-- bytes are given in one way
+one-given : (xs ys : List ℕ) (before : Told) (now : Option Told) → Gave xs before now → Gave ys before now → xs ≡ ys
+one-given xs ys before now x y =
+    let taken : before.given ++ take (length xs) before.left ≡ before.given ++ take (length ys) before.left = ap given-of (sym x.1 ∙ y.1) in
+    sym x.0 ∙ (append_cancel_left before.given (take (length xs) before.left) (take (length ys) before.left) taken ∙ y.0)
+
+-- a reader that has read whole items has read a feed that ends behind them
+read-clean : (reading : Reading) (units : List (List ℕ)) (before : Told) (now : Option Told) → (h : HasRead reading units before now)
+    → IsFeedOf reading.kind (h.head ++ flat_map (item reading.kind) units) reading.config units Clean
+read-clean reading units before now h =
+    let within = h.within in
+    let placed = h.placed in
+    record {
+      head = h.head;
+      rest = [];
+      configured = h.configured;
+      split = sym (append-nil (h.head ++ flat_map (item reading.kind) units));
+      sized = h.sized;
+      few = h.few;
+      within = omega arith;
+      ends = refl;
+    }
+
+-- so where it stopped the bytes that were given end cleanly
+pub stopped-clean : (reading : Reading) (units : List (List ℕ)) (before : Told) (now : Option Told) (answer : Ending) → FeedsAreOne → reading.stage ≡ Open → HasRead reading units before now
+    → (e : EndsFeed reading.kind reading.config units answer before now) → e.ending ≡ Clean
+stopped-clean reading units before now answer one open_is h e =
+    let front = h.head ++ flat_map (item reading.kind) units in
+    let whole : front ++ begun reading.kind reading.stage ≡ front = ap (λ (s : Stage). front ++ begun reading.kind s) open_is ∙ append-nil front in
+    let same : front ≡ e.given = one-given front e.given before now (subst (λ (xs : List ℕ). Gave xs before now) whole h.gave) e.gave in
+    let clean = subst (λ (bytes : List ℕ). IsFeedOf reading.kind bytes reading.config units Clean) same (read-clean reading units before now h) in
+    (one.units reading.kind e.given units units e.ending Clean (inl (reading.config, e.read)) (inl (reading.config, clean))).1
+
+-- an answer for an ending isn't one for a sink
+pub no_sink : (items : ℕ) (ending : Ending) → (ending_answer items ending).code ≢ 7
+no_sink items Clean e = omega arith
+no_sink items Full e = omega arith
+no_sink items (Broken Memory) e = omega arith
+no_sink items (Broken (FeedHead at)) e = omega arith
+no_sink items (Broken (Marker at)) e = omega arith
+no_sink items (Broken (FeedCut at)) e = omega arith
+no_sink items (Broken (SourceFault count)) e = omega arith
+no_sink items (Broken (TooLong at)) e = omega arith
+no_sink items (Broken (UnitLong at)) e = omega arith
+
+-- the bytes that were given are as many as were judged
+reached : (given : List ℕ) (told : Told) {n : ℕ} → take (length given) told.left ≡ given → 0 + length given ≡ n → length (take (length given) told.left) ≡ n
+reached given told same reach = let long = ap (length {A = ℕ}) same in omega arith
+
+-- a run that stopped behind so many units
+pub runs_stopped : (growing closed : Fields → List (List ℕ) → List ℕ) (config : Fields) (units : List (List ℕ)) (answer : Ending) (told : Told) (before now : Outside) (status : Status)
+    → FeedsAreOne → (e : EndsFeed Units config units answer told now.told) → WritesFront growing closed config units e.ending status before.written now.written → IsStop status
+    → RunsOver (Wraps closed) (KeepsPace growing) told before now status
+runs_stopped growing closed config units answer told before now status one e w stop = record {
+  count = length e.given;
+  gave = e.gave.1;
+  written = w.written;
+  gains = w.gains;
+  whole = closed config units;
+  answered = ending_answer (length units) e.ending;
+  given = inl (record { config = config; units = units; ending = e.ending; feed = feed; file = refl; answered = refl });
+  missing = w.missing;
+  front = w.front;
   all = λ one seven. absurd (neither stop one seven);
+  cut = w.cut;
+  says = λ whole. absurd (whole (short stop));
+  behind = λ five. absurd (other stop five);
+  paced = paced growing (take (length e.given) told.left) w.written config units e.ending one feed (reached e.given told e.gave.0 e.reach) w.begun w.ahead;
 }
   where
-    cut : IsStop status → IsCutShort status
-    cut (inl e) = inl e
-    cut (inr e) = inr (inr e)
+    feed : IsFeedOf Units (take (length e.given) told.left) config units e.ending
+    feed = subst (λ (bytes : List ℕ). IsFeedOf Units bytes config units e.ending) (sym e.gave.0) e.read
+
+    short : IsStop status → IsCutShort status
+    short (inl h) = inl h
+    short (inr h) = inr (inr h)
 
     neither : IsStop status → status.code ≢ 1 → status.code ≢ 7 → ⊥
-    neither (inl e) one seven = one e
-    neither (inr e) one seven = seven e
+    neither (inl h) first seventh = first h
+    neither (inr h) first seventh = seventh h
 
--- the closed file was written
-closed-whole : (closed : Fields → List (List ℕ) → List ℕ) (before : Told) (now : Option Told) (old new : Option (List ℕ)) (status : Status) (count : ℕ) (cfg : Fields) (units : List (List ℕ)) (ending : Ending)
-    → now ≡ Some (after count before) → IsFeedOf (take count before.left) cfg units ending
-    → ((IsCutShort status → ⊥) → (ending : Ending) × IsFeedOf before.left cfg units ending × (status ≡ ending_answer (length units) ending))
-    → Gains old new (closed cfg units) → Runs (Wraps closed) before now old new status
-closed-whole closed before now old new status count cfg units ending gave feed shown gains = record {
-  count = count;
-  gave = gave;
-  written = closed cfg units;
+    other : IsStop status → status.code ≡ 5 → ⊥
+    other (inl h) five = omega arith
+    other (inr h) five = omega arith
+
+-- an answer that isn't cut short is shown by bytes
+shown-of : (items : ℕ) (answer : Ending) → (IsCutShort (ending_answer items answer) → ⊥) → IsShown answer
+shown-of items Clean whole = tt
+shown-of items Full whole = tt
+shown-of items (Broken Memory) whole = absurd (whole (inl refl))
+shown-of items (Broken (FeedHead at)) whole = tt
+shown-of items (Broken (Marker at)) whole = tt
+shown-of items (Broken (FeedCut at)) whole = tt
+shown-of items (Broken (SourceFault count)) whole = absurd (whole (inr (inl refl)))
+shown-of items (Broken (TooLong at)) whole = tt
+shown-of items (Broken (UnitLong at)) whole = tt
+
+-- and then it is the ending of the bytes that were given
+same-of : (answer ending : Ending) → IsShown answer → Answers answer ending → ending ≡ answer
+same-of Clean ending shown is = is
+same-of Full ending shown is = is
+same-of (Broken Memory) ending shown is = absurd shown
+same-of (Broken (FeedHead at)) ending shown is = is
+same-of (Broken (Marker at)) ending shown is = is
+same-of (Broken (FeedCut at)) ending shown is = is
+same-of (Broken (SourceFault count)) ending shown is = absurd shown
+same-of (Broken (TooLong at)) ending shown is = is
+same-of (Broken (UnitLong at)) ending shown is = is
+
+-- bytes behind which the feed may go on end openly
+open-ending : (items : ℕ) (ending : Ending) → MayGoOn ending → IsOpenEnd (ending_answer items ending)
+open-ending items Clean on = inl refl
+open-ending items Full on = absurd on
+open-ending items (Broken Memory) on = absurd on
+open-ending items (Broken (FeedHead at)) on = absurd on
+open-ending items (Broken (Marker at)) on = absurd on
+open-ending items (Broken (FeedCut at)) on = inr refl
+open-ending items (Broken (SourceFault count)) on = absurd on
+open-ending items (Broken (TooLong at)) on = absurd on
+open-ending items (Broken (UnitLong at)) on = absurd on
+
+-- the source's fault is answered where they do
+open-of : (items : ℕ) (answer ending : Ending) → (ending_answer items answer).code ≡ 5 → Answers answer ending → IsOpenEnd (ending_answer items ending)
+open-of items Clean ending five is = absurd (omega arith)
+open-of items Full ending five is = absurd (omega arith)
+open-of items (Broken Memory) ending five is = absurd (omega arith)
+open-of items (Broken (FeedHead at)) ending five is = absurd (omega arith)
+open-of items (Broken (Marker at)) ending five is = absurd (omega arith)
+open-of items (Broken (FeedCut at)) ending five is = absurd (omega arith)
+open-of items (Broken (SourceFault count)) ending five is = open-ending items ending is
+open-of items (Broken (TooLong at)) ending five is = absurd (omega arith)
+open-of items (Broken (UnitLong at)) ending five is = absurd (omega arith)
+
+-- a run that wrote the closed file
+pub runs_closed : (growing closed : Fields → List (List ℕ) → List ℕ) (config : Fields) (units : List (List ℕ)) (answer : Ending) (told : Told) (before now : Outside)
+    → FeedsAreOne → EndsFeed Units config units answer told now.told → Gains before.written now.written (closed config units) → AllButLast growing config units (closed config units)
+    → AllOf growing config units (closed config units)
+    → RunsOver (Wraps closed) (KeepsPace growing) told before now (ending_answer (length units) answer)
+runs_closed growing closed config units answer told before now one e gains begun whole_file = record {
+  count = length e.given;
+  gave = e.gave.1;
+  written = closed config units;
   gains = gains;
-  says = λ whole. let s = shown whole in inl (record { config = cfg; units = units; ending = s.0; feed = s.1; file = refl; answered = s.2 });
-  whole = closed cfg units;
-  answered = ending_answer (length units) ending;
-  given = inl (record { config = cfg; units = units; ending = ending; feed = feed; file = refl; answered = refl });
+  whole = closed config units;
+  answered = ending_answer (length units) e.ending;
+  given = inl (record { config = config; units = units; ending = e.ending; feed = feed; file = refl; answered = refl });
   missing = [];
-  front = sym (append-nil (closed cfg units));
+  front = sym (append-nil (closed config units));
   all = λ one seven. refl;
+  cut = λ seven. absurd (no_sink (length units) answer seven);
+  says = λ whole.
+      let shown = shown-of (length units) answer whole in (
+        inl (record { config = config; units = units; ending = answer; feed = e.shown shown; file = refl; answered = refl }),
+        ap (ending_answer (length units)) (same-of answer e.ending shown e.answered),
+      );
+  behind = λ five. open-of (length units) answer e.ending five e.answered;
+  paced = paced growing (take (length e.given) told.left) (closed config units) config units e.ending one feed (reached e.given told e.gave.0 e.reach) begun (λ unclean. whole_file);
 }
-
--- a fault that isn't the want of memory and not the source's shows in the bytes
-pub shows : (fault : FeedFault) → (IsCutShort (feed_answer fault) → ⊥) → IsBreak fault
-shows Memory whole = absurd (whole (inl refl))
-shows (FeedHead at) whole = tt
-shows (Marker at) whole = tt
-shows (FeedCut at) whole = tt
-shows (SourceFault count) whole = absurd (whole (inr (inl refl)))
-shows (TooLong at) whole = tt
-shows (UnitLong at) whole = tt
+  where
+    feed : IsFeedOf Units (take (length e.given) told.left) config units e.ending
+    feed = subst (λ (bytes : List ℕ). IsFeedOf Units bytes config units e.ending) (sym e.gave.0) e.read
 
 -- the head was refused
-pub Runs-head : (closed : Fields → List (List ℕ) → List ℕ) (before : Told) (w : Option (List ℕ)) (told : Option Told) (fault : FeedFault) → BreaksHead before told fault → Runs (Wraps closed) before told w w (feed_answer fault)
-Runs-head closed before w told fault b = record {
-  count = b.count;
-  gave = b.moved;
+pub runs_head : (growing closed : Fields → List (List ℕ) → List ℕ) (fault : FeedFault) (told : Told) (before now : Outside) → FeedsAreOne
+    → now.written ≡ before.written → BreaksHead Units told now.told fault → RunsOver (Wraps closed) (KeepsPace growing) told before now (feed_answer fault)
+runs_head growing closed fault told before now one same e = record {
+  count = length e.given;
+  gave = e.gave.1;
   written = [];
-  gains = Gains-nil w;
-  says = λ whole. inr (record { ending = Broken fault; feed = (b.shown (shows fault whole)).1; nothing = refl; answered = refl });
+  gains = subst (λ (w : Option (List ℕ)). Gains before.written w []) (sym same) (Gains-nil before.written);
   whole = [];
-  answered = ending_answer 0 b.read.0;
-  given = inr (record { ending = b.read.0; feed = b.read.1; nothing = refl; answered = refl });
+  answered = ending_answer 0 e.ending;
+  given = inr (record { ending = e.ending; feed = head; nothing = refl; answered = refl });
   missing = [];
   front = refl;
   all = λ one seven. refl;
+  cut = λ seven. absurd (no_sink 0 (Broken fault) seven);
+  says = λ whole.
+      let shown = shown-of 0 (Broken fault) whole in (
+        inr (record { ending = Broken fault; feed = e.shown shown; nothing = refl; answered = refl }),
+        ap (ending_answer 0) (same-of (Broken fault) e.ending shown e.answered),
+      );
+  behind = λ five. open-of 0 (Broken fault) e.ending five e.answered;
+  paced = paced-head growing (take (length e.given) told.left) [] e.ending one head (reached e.given told e.gave.0 e.reach);
 }
-
--- nothing was written behind the feed's head
-pub Runs-none : (closed : Fields → List (List ℕ) → List ℕ) (reading : Reading) (before : Told) (told : Option Told) (w : Option (List ℕ)) (status : Status) → ReadsHead reading (Some before) told → IsStop status → Runs (Wraps closed) before told w w status
-Runs-none closed reading before told w status reads stop =
-    let f = feed-head reading before told reads in
-    stopped closed before told w w status HEAD_LEN reading.config [] Clean [] (closed reading.config []) f.0 f.1 stop refl (Gains-nil w)
-
--- the sink failed inside the file's head
-pub Runs-file_head : (E : Type 0) (head : Fields → List ℕ) (growing tail closed : Fields → List (List ℕ) → List ℕ) (reading : Reading) (before : Told) (told : Option Told) (w w' : Option (List ℕ)) (e : E) (status : Status)
-    → ((cfg : Fields) → growing cfg [] ≡ head cfg) → ((cfg : Fields) (units : List (List ℕ)) → closed cfg units ≡ growing cfg units ++ tail cfg units)
-    → ReadsHead reading (Some before) told → IsStop status → Writes w w' (Err e) (head reading.config) → Runs (Wraps closed) before told w w' status
-Runs-file_head E head growing tail closed reading before told w w' e status starts closes reads stop wrote =
-    let f = feed-head reading before told reads in
-    let cfg = reading.config in
-    let piece = Gains-first_front w w' e (head cfg) wrote in
-    let whole : closed cfg [] ≡ piece.0 ++ (piece.1 ++ tail cfg []) =
-    closes cfg [] ∙ (ap (λ (xs : List ℕ). xs ++ tail cfg []) (starts cfg ∙ piece.2) ∙ append_assoc piece.0 piece.1 (tail cfg [])) in
-    stopped closed before told w w' status HEAD_LEN cfg [] Clean piece.0 (piece.1 ++ tail cfg []) f.0 f.1 stop whole piece.3
-
--- writing stopped inside the lead of a unit that was read, or inside the unit
-pub Runs-unit : (E : Type 0) (places_of : Fields → List (List ℕ) → List Place) (lead : Fields → List (List ℕ) → ℕ → List ℕ) (growing tail closed : Fields → List (List ℕ) → List ℕ) (reading new : Reading) (places : List Place) (before : Told) (mid now : Option Told) (old w w' : Option (List ℕ)) (unit : List ℕ) (e : E) (status : Status)
-    → ((cfg : Fields) (units : List (List ℕ)) (unit : List ℕ) → growing cfg (units ++ unit ∷ []) ≡ growing cfg units ++ (lead cfg units (length unit) ++ unit))
-    → ((cfg : Fields) (units : List (List ℕ)) → closed cfg units ≡ growing cfg units ++ tail cfg units)
-    → (p : Passed places_of growing reading places before mid old w) → GivesUnit Open reading new mid now unit → reading.count < reading.config.max_frames → IsStop status
-    → Writes w w' (Err e) (lead reading.config p.units (length unit) ++ unit) → Runs (Wraps closed) before now old w' status
-Runs-unit E places_of lead growing tail closed reading new places before mid now old w w' unit e status grows closes p gives room stop wrote =
-    let f = feed-more places_of growing reading new places before mid now old w unit p gives room in
-    let cfg = reading.config in
-    let units = p.units ++ unit ∷ [] in
-    let piece = Gains-front old w w' e (growing cfg p.units) (lead cfg p.units (length unit) ++ unit) p.wrote wrote in
-    let grown : growing cfg units ≡ (growing cfg p.units ++ piece.0) ++ piece.1 =
-    grows cfg p.units unit ∙ (ap (λ (xs : List ℕ). growing cfg p.units ++ xs) piece.2 ∙ sym (append_assoc (growing cfg p.units) piece.0 piece.1)) in
-    let whole : closed cfg units ≡ (growing cfg p.units ++ piece.0) ++ (piece.1 ++ tail cfg units) =
-    closes cfg units ∙ (ap (λ (xs : List ℕ). xs ++ tail cfg units) grown ∙ append_assoc (growing cfg p.units ++ piece.0) piece.1 (tail cfg units)) in
-    stopped closed before now old w' status new.at cfg units Clean (growing cfg p.units ++ piece.0) (piece.1 ++ tail cfg units) f.0 f.1 stop whole piece.3
-
--- what the source gave in all, and the feed of it
-given-so : (places_of : Fields → List (List ℕ) → List Place) (growing : Fields → List (List ℕ) → List ℕ) (reading : Reading) (places : List Place) (before : Told) (mid now : Option Told) (old w : Option (List ℕ)) (status : Status) (p : Passed places_of growing reading places before mid old w)
-    → (e : EndsFeed reading (after reading.at before) now status)
-    → (now ≡ Some (after (reading.at + e.count) before)) × IsFeedOf (take (reading.at + e.count) before.left) reading.config p.units e.read.0
-given-so places_of growing reading places before mid now old w status p e = (
-  e.moved ∙ ap Some (after-after reading.at e.count before),
-  feed-of places_of growing reading places before mid old w p (take (reading.at + e.count) before.left) (take e.count (drop reading.at before.left)) e.read.0 (take-add reading.at e.count before.left) e.read.1,
-)
-
--- what is told of the feed's end, from where the reader stands
-pub ends-from : (places_of : Fields → List (List ℕ) → List Place) (growing : Fields → List (List ℕ) → List ℕ) (reading : Reading) (places : List Place) (before : Told) (mid now : Option Told) (old w : Option (List ℕ)) (status : Status) → Passed places_of growing reading places before mid old w
-    → IfTold mid now (λ b. EndsFeed reading b now status) → EndsFeed reading (after reading.at before) now status
-ends-from places_of growing reading places before mid now old w status p ends = subst (λ (m : Option Told). IfTold m now (λ b. EndsFeed reading b now status)) p.moved ends
-
--- the feed ended for want of memory, and the tail wasn't begun
-pub Runs-no_tail : (places_of : Fields → List (List ℕ) → List Place) (growing tail closed : Fields → List (List ℕ) → List ℕ) (reading : Reading) (places : List Place) (before : Told) (mid now : Option Told) (old w : Option (List ℕ)) (status : Status)
-    → ((cfg : Fields) (units : List (List ℕ)) → closed cfg units ≡ growing cfg units ++ tail cfg units)
-    → (p : Passed places_of growing reading places before mid old w) → IfTold mid now (λ b. EndsFeed reading b now status) → IsStop status → Runs (Wraps closed) before now old w status
-Runs-no_tail places_of growing tail closed reading places before mid now old w status closes p ends stop =
-    let e = ends-from places_of growing reading places before mid now old w status p ends in
-    let f = given-so places_of growing reading places before mid now old w status p e in
-    stopped closed before now old w status (reading.at + e.count) reading.config p.units e.read.0 (growing reading.config p.units) (tail reading.config p.units) f.0 f.1 stop (closes reading.config p.units) p.wrote
-
--- the feed ended, and the sink failed inside the tail
-pub Runs-tail : (E : Type 0) (places_of : Fields → List (List ℕ) → List Place) (growing tail closed : Fields → List (List ℕ) → List ℕ) (reading : Reading) (places : List Place) (before : Told) (mid now : Option Told) (old w w' : Option (List ℕ)) (err : E) (status stop : Status)
-    → ((cfg : Fields) (units : List (List ℕ)) → closed cfg units ≡ growing cfg units ++ tail cfg units)
-    → (p : Passed places_of growing reading places before mid old w) → IfTold mid now (λ b. EndsFeed reading b now status) → IsStop stop
-    → Writes w w' (Err err) (tail reading.config p.units) → Runs (Wraps closed) before now old w' stop
-Runs-tail E places_of growing tail closed reading places before mid now old w w' err status stop closes p ends stops wrote =
-    let e = ends-from places_of growing reading places before mid now old w status p ends in
-    let f = given-so places_of growing reading places before mid now old w status p e in
-    let cfg = reading.config in
-    let piece = Gains-front old w w' err (growing cfg p.units) (tail cfg p.units) p.wrote wrote in
-    let whole : closed cfg p.units ≡ (growing cfg p.units ++ piece.0) ++ piece.1 =
-    closes cfg p.units ∙ (ap (λ (xs : List ℕ). growing cfg p.units ++ xs) piece.2 ∙ sym (append_assoc (growing cfg p.units) piece.0 piece.1)) in
-    stopped closed before now old w' stop (reading.at + e.count) cfg p.units e.read.0 (growing cfg p.units ++ piece.0) piece.1 f.0 f.1 stops whole piece.3
-
--- the feed ended, and the tail was written
-pub Runs-closed : (E : Type 0) (places_of : Fields → List (List ℕ) → List Place) (growing tail closed : Fields → List (List ℕ) → List ℕ) (reading : Reading) (places : List Place) (before : Told) (mid now : Option Told) (old w w' : Option (List ℕ)) (status : Status)
-    → ((cfg : Fields) (units : List (List ℕ)) → closed cfg units ≡ growing cfg units ++ tail cfg units)
-    → (p : Passed places_of growing reading places before mid old w) → IfTold mid now (λ b. EndsFeed reading b now status)
-    → Writes {E = E} w w' (Ok tt) (tail reading.config p.units) → Runs (Wraps closed) before now old w' status
-Runs-closed E places_of growing tail closed reading places before mid now old w w' status closes p ends wrote =
-    let e = ends-from places_of growing reading places before mid now old w status p ends in
-    let f = given-so places_of growing reading places before mid now old w status p e in
-    let cfg = reading.config in
-    let at = reading.at in
-    closed-whole closed before now old w' status (at + e.count) cfg p.units e.read.0 f.0 f.1
-    (λ whole. let s = e.shown whole in (
-      s.0,
-      feed-of places_of growing reading places before mid old w p before.left (drop at before.left) s.0 (sym (take-append-drop at before.left)) s.1,
-      s.2 ∙ ap (λ (n : ℕ). ending_answer n s.0) p.counted,
-    ))
-    (subst (λ (xs : List ℕ). Gains old w' xs) (sym (closes cfg p.units)) (Gains-more E old w w' (growing cfg p.units) (tail cfg p.units) p.wrote wrote))
+  where
+    head : EndsInHead Units (take (length e.given) told.left) e.ending
+    head = subst (λ (bytes : List ℕ). EndsInHead Units bytes e.ending) (sym e.gave.0) e.read

@@ -1,5 +1,7 @@
 pub mod Causes
+pub mod Helps
+pub mod inner
+pub mod Messages
+pub mod Programs
 pub mod Runs
-pub mod Statuses
-pub mod Steps
 pub mod Words

@@ -1,35 +1,52 @@
 -- What a run writes and answers for the words and the feed's bytes (own). docs/ARCHITECTURE.md, "The run".
-use Rattle.std.specs.Prelude.{◌≡◌, ◌≢◌, ◌⊎◌, ℕ, List, [], ◌++◌, length, take, Option, Some, None}
+use Rattle.std.specs.Prelude.{◌≡◌, ◌≢◌, ◌⊎◌, ℕ, List, [], ◌∷◌, ◌++◌, length, take, Option, Some, None}
 use Rattle.clap.specs.Walk.{Text}
 use Rattle.rec_bytes.specs.Configuration.{Fields}
 use Rattle.rec_bytes.specs.declared.status.Status.{Status}
+use Rattle.raw_feed.specs.declared.head.TheConstants.{FEED_HEAD_LEN}
+use Rattle.raw_feed.specs.declared.kind.Kind.TheVariants.{Units}
 use Rattle.raw_feed.specs.Told.{Told, after}
-use Rattle.raw_feed.specs.Items.{Ending}
+use Rattle.raw_feed.specs.Items.{Ending, Clean}
+use Rattle.raw_feed.specs.Breaks.{judged_to}
 use Rattle.raw_feed.specs.Feeds.{IsFeedOf, EndsInHead}
+use Rattle.raw_feed.specs.HasRead.{behind_units}
+use Rattle.raw_feed.specs.Reading.{IfTold}
+use Rattle.run_parts.specs.Causes.{Counts}
+use Rattle.run_parts.specs.Statuses.{ending_answer, words_answer}
 use Rattle.ingest_run.specs.declared.words.Command.{Command}
 use Rattle.ingest_run.specs.declared.words.Command.TheVariants.{Wrap}
 use Rattle.ingest_run.specs.Words.{command_of}
-use Rattle.ingest_run.specs.Statuses.{ending_answer, words_answer}
 
 -- the closed file of the units before the feed's end or first break is written, and the answer is as the feed ends
 pub record WrapsUnits (closed : Fields → List (List ℕ) → List ℕ) (bytes written : List ℕ) (status : Status) : Type 0 where
   pub config : Fields
   pub units : List (List ℕ)
   pub ending : Ending
-  pub feed : IsFeedOf bytes config units ending
+  pub feed : IsFeedOf Units bytes config units ending
   pub file : written ≡ closed config units
   pub answered : status ≡ ending_answer (length units) ending
 
 -- the feed ends in its head: nothing is written, and the answer is its refusal's
 pub record RefusesHead (bytes written : List ℕ) (status : Status) : Type 0 where
   pub ending : Ending
-  pub feed : EndsInHead bytes ending
+  pub feed : EndsInHead Units bytes ending
   pub nothing : written ≡ []
   pub answered : status ≡ ending_answer 0 ending
 
 -- what `wrap` writes and answers, by the closed files of its layout
 abbrev pub Wraps : (Fields → List (List ℕ) → List ℕ) → List ℕ → List ℕ → Status → Type 0
 Wraps closed bytes written status = WrapsUnits closed bytes written status ⊎ RefusesHead bytes written status
+
+-- The pace of `wrap`, by the growing files of its layout: no byte is read behind the last one that judges how those read
+-- end, once a unit was read all units before it have been written, and once a byte behind it was read it has been, too.
+pub record KeepsPace (growing : Fields → List (List ℕ) → List ℕ) (given written : List ℕ) : Type 0 where
+  pub head_judged : (ending : Ending) → EndsInHead Units given ending → length given ≡ judged_to FEED_HEAD_LEN ending
+  pub judged : (config : Fields) (units : List (List ℕ)) (ending : Ending) → IsFeedOf Units given config units ending
+      → length given ≡ judged_to (behind_units Units units) ending
+  pub prompt : (config : Fields) (units : List (List ℕ)) (unit : List ℕ) (ending : Ending)
+      → IsFeedOf Units given config (units ++ unit ∷ []) ending → (rest : List ℕ) × (written ≡ growing config units ++ rest)
+  pub ahead : (config : Fields) (units : List (List ℕ)) (ending : Ending)
+      → IsFeedOf Units given config units ending → ending ≢ Clean → (rest : List ℕ) × (written ≡ growing config units ++ rest)
 
 -- what a command writes and answers; words that are no command write nothing
 abbrev pub SaysFor : (Fields → List (List ℕ) → List ℕ) → Option Command → List ℕ → List ℕ → Status → Type 0
@@ -40,27 +57,65 @@ SaysFor closed (Some Wrap) bytes written status = Wraps closed bytes written sta
 abbrev pub Says : (Fields → List (List ℕ) → List ℕ) → List Text → List ℕ → List ℕ → Status → Type 0
 Says closed words = SaysFor closed (command_of words)
 
+-- the pace of a command; for words that are no command nothing is read
+abbrev pub PacesFor : (Fields → List (List ℕ) → List ℕ) → Option Command → List ℕ → List ℕ → Type 0
+PacesFor growing None given written = given ≡ []
+PacesFor growing (Some Wrap) given written = KeepsPace growing given written
+
+-- the pace of a run, whatever becomes of it
+abbrev pub Paces : (Fields → List (List ℕ) → List ℕ) → List Text → List ℕ → List ℕ → Type 0
+Paces growing words = PacesFor growing (command_of words)
+
 -- a sink that tells has these bytes more
 abbrev pub Gains : Option (List ℕ) → Option (List ℕ) → List ℕ → Type 0
 Gains None now written = now ≡ None
 Gains (Some old) now written = now ≡ Some (old ++ written)
 
+-- a sink that tells lacks some of the bytes that were for it: these
+abbrev pub Lacks : Option (List ℕ) → List ℕ → Type 0
+Lacks None missing = Unit {0}
+Lacks (Some old) missing = missing ≢ []
+
 -- the answer says that memory was wanted, the source failed or the sink failed
 abbrev pub IsCutShort : Status → Type 0
 IsCutShort status = (status.code ≡ 1) ⊎ ((status.code ≡ 5) ⊎ (status.code ≡ 7))
 
--- A run over a source that tells its bytes. It says what its command says for all bytes that the source had, unless it is
--- cut short; what it wrote is a front of what is said for the bytes that the source gave, and the whole of that unless
--- memory was wanted or the sink failed.
-pub record Runs (Said : List ℕ → List ℕ → Status → Type 0) (before : Told) (now : Option Told) (old new : Option (List ℕ)) (status : Status) : Type 0 where
+-- an answer for bytes behind which a feed may go on: they end after a whole item, or they are cut
+abbrev pub IsOpenEnd : Status → Type 0
+IsOpenEnd status = (status.code ≡ 0) ⊎ (status.number ≡ 112)
+
+-- what the devices of a run show: what its source tells, what was written, and how often each has failed
+pub record Outside : Type 0 where
+  pub told : Option Told
+  pub written : Option (List ℕ)
+  pub counts : Counts
+
+-- the devices by what each of them shows
+abbrev pub outside : Option Told → ℕ → Option (List ℕ) → ℕ → Outside
+outside told source_faults written sink_faults =
+    record { told = told; written = written; counts = record { source = source_faults; sink = sink_faults } }
+
+-- A run over a source that tells its bytes. It says what its command says for all bytes that the source had, and for
+-- those that it gave, unless it is cut short. What it wrote is a front of what is said for the bytes that were given, and
+-- the whole of that unless memory was wanted or the sink failed, which then lacks a part of it; the source's fault is
+-- answered only where those don't show how the feed ends.
+pub record RunsOver (Said : List ℕ → List ℕ → Status → Type 0) (Paced : List ℕ → List ℕ → Type 0) (told : Told)
+    (before now : Outside) (status : Status) : Type 0 where
   pub count : ℕ
-  pub gave : now ≡ Some (after count before)
+  pub gave : now.told ≡ Some (after count told)
   pub written : List ℕ
-  pub gains : Gains old new written
-  pub says : (IsCutShort status → ⊥) → Said before.left written status
+  pub gains : Gains before.written now.written written
   pub whole : List ℕ
   pub answered : Status
-  pub given : Said (take count before.left) whole answered
+  pub given : Said (take count told.left) whole answered
   pub missing : List ℕ
   pub front : whole ≡ written ++ missing
   pub all : status.code ≢ 1 → status.code ≢ 7 → missing ≡ []
+  pub cut : status.code ≡ 7 → Lacks before.written missing
+  pub says : (IsCutShort status → ⊥) → Said told.left written status × (answered ≡ status)
+  pub behind : status.code ≡ 5 → IsOpenEnd answered
+  pub paced : Paced (take count told.left) written
+
+-- a run, of which this holds where its source tells its bytes
+abbrev pub Runs : (List ℕ → List ℕ → Status → Type 0) → (List ℕ → List ℕ → Type 0) → Outside → Outside → Status → Type 0
+Runs Said Paced before now status = IfTold before.told now.told (λ told. RunsOver Said Paced told before now status)

@@ -1,5 +1,6 @@
 -- The words of a call (own). docs/FORMATS.md, "Words".
-use Rattle.std.specs.Prelude.{◌&&◌, ◌==◌, Bool, true, false, List, [], ◌∷◌, Option, Some, None, map, length, String, string_bytes, codes, if◌then◌else◌}
+use Rattle.std.specs.Prelude.{◌&&◌, ◌==◌, Bool, true, false, List, [], ◌∷◌, Option, Some, None, Result, Ok, Err}
+use Rattle.std.specs.Prelude.{map, length, String, Vec, string_bytes, codes, if◌then◌else◌}
 use Rattle.std.specs.Str.{bytes_eq}
 use Rattle.clap.specs.Words.{App, new_app, fault_of}
 use Rattle.clap.specs.Walk.{Text}
@@ -9,6 +10,11 @@ use Rattle.ingest_run.specs.declared.words.Command.TheVariants.{Wrap}
 -- the bytes of each word
 abbrev pub texts : {Z : Type 0} → List (String Z) → List Text
 texts words = map (λ word. string_bytes word) words
+
+-- the same where the words were read
+abbrev pub texts_in : {Y Z E : Type 0} → Result (Vec (String Y) Z) E → Result (List Text) E
+texts_in (Ok words) = Ok (texts words.items)
+texts_in (Err fault) = Err fault
 
 -- a command that has no help flag: help is the program's own
 abbrev pub without_help : App → App

@@ -1,6 +1,6 @@
 ghost use Rattle.std.specs.Prelude.{◌≡◌, Some};
 
-use crate::plain;
+use crate::{WordsFault, plain, run_program};
 use mxf_take_file::PictureLayout;
 use raw_feed::{Feed, MemorySink, MemorySource};
 use rec_bytes::Status;
@@ -8,6 +8,7 @@ use std::alloc::Global;
 use std::marker::Brand;
 use std::process::Abort;
 use std::test::Fail;
+use take_layout::files_are_one;
 
 // docs/FORMATS.md, "Feeds" and "Configuration": the magic and the small configuration, written by hand.
 const HEAD: [u8; 72] = [
@@ -40,6 +41,13 @@ const BODY_KEY: [u8; 16] = *b"\x06\x0e\x2b\x34\x02\x05\x01\x01\x0d\x01\x02\x01\x
 const FOOTER_KEY: [u8; 16] = *b"\x06\x0e\x2b\x34\x02\x05\x01\x01\x0d\x01\x02\x01\x01\x04\x04\x00";
 
 const INDEX_KEY: [u8; 16] = *b"\x06\x0e\x2b\x34\x02\x05\x01\x01\x0d\x01\x02\x01\x01\x11\x01\x00";
+
+// docs/FORMATS.md, "Index table segments": the key.
+const SEGMENT_KEY: [u8; 16] = *b"\x06\x0e\x2b\x34\x02\x53\x01\x01\x0d\x01\x02\x01\x01\x10\x01\x00";
+
+// docs/FORMATS.md, "Metadata": 0202 in set 7, behind the pack, the primer and sets 1 to 6:
+// 124 + 928 + 174 + 144 + 112 + 92 + 144 + 100, then 60 bytes of the set.
+const DURATION_AT: usize = 1878;
 
 /// What a run answers (code, number, place), and what it writes.
 type Run = ((u8, u16, u64), Vec<u8>);
@@ -199,7 +207,7 @@ fn a_file_is_closed_at_the_feeds_end_or_its_first_break(rt: HostRuntime) -> Resu
 #[test]
 fn the_parts_stand_where_the_format_says(rt: HostRuntime) -> Result<(), Fail> {
     // frames a partition; a place and the bytes that stand there, worked out by hand
-    let cases: [(u8, &str, usize, &[u8]); 17] = [
+    let cases: [(u8, &str, usize, &[u8]); 28] = [
         (250, "header pack", 0, &HEADER_KEY),
         (250, "body pack", 3289, &BODY_KEY),
         (250, "first element", 3413, &ELEMENT_HEAD),
@@ -232,14 +240,63 @@ fn the_parts_stand_where_the_format_says(rt: HostRuntime) -> Result<(), Fail> {
         (2, "third element", 3847, &ELEMENT_HEAD),
         (2, "third frame", 3871, &FRAME),
         (2, "footer pack", 3921, &FOOTER_KEY),
+        (2, "the second partition's index", 3685, &SEGMENT_KEY),
+        (
+            2,
+            "from frame 0 on, 2 frames",
+            3737,
+            b"\x3f\x0c\x00\x08\x00\x00\x00\x00\x00\x00\x00\x00\x3f\x0d\x00\x08\x00\x00\x00\x00\x00\x00\x00\x02",
+        ),
+        (
+            2,
+            "in stream 2, of stream 1",
+            3769,
+            b"\x3f\x06\x00\x04\x00\x00\x00\x02\x3f\x07\x00\x04\x00\x00\x00\x01",
+        ),
+        (
+            2,
+            "two entries of 11 bytes, at 0 and at 74",
+            3808,
+            b"\x3f\x0a\x00\x1e\x00\x00\x00\x02\x00\x00\x00\x0b\
+            \x00\x00\x80\x00\x00\x00\x00\x00\x00\x00\x00\x00\x00\x80\x00\x00\x00\x00\x00\x00\x00\x4a",
+        ),
+        (2, "the footer's index", 7210, &SEGMENT_KEY),
+        (
+            2,
+            "from frame 2 on, 1 frame",
+            7262,
+            b"\x3f\x0c\x00\x08\x00\x00\x00\x00\x00\x00\x00\x02\x3f\x0d\x00\x08\x00\x00\x00\x00\x00\x00\x00\x01",
+        ),
+        (2, "random index pack", 7361, &INDEX_KEY),
+        (
+            2,
+            "its partitions: streams and places",
+            7381,
+            b"\x00\x00\x00\x00\x00\x00\x00\x00\x00\x00\x00\x00\x00\x00\x00\x01\x00\x00\x00\x00\x00\x00\x0c\xd9\
+            \x00\x00\x00\x01\x00\x00\x00\x00\x00\x00\x0d\xe9\x00\x00\x00\x00\x00\x00\x00\x00\x00\x00\x0f\x51",
+        ),
+        (2, "track number", 2848, b"\x48\x04\x00\x04\x15\x01\x17\x01"),
+        (
+            2,
+            "the header's duration, unknown",
+            DURATION_AT,
+            b"\x02\x02\x00\x08\xff\xff\xff\xff\xff\xff\xff\xff",
+        ),
+        (
+            2,
+            "the footer's duration, 3 frames",
+            DURATION_AT + 3921,
+            b"\x02\x02\x00\x08\x00\x00\x00\x00\x00\x00\x00\x03",
+        ),
     ];
+    files_are_one::<PictureLayout>();
     for (part, name, at, want) in cases {
         let mut bytes = feed_of(rt.alloc(), 3)?;
         put(&mut bytes, 27, &[part]);
         let (got, written) = wrapped::<Brand, HostRuntime>(&rt, &bytes, &[], &[], 10_000)?;
         assert_eq!(rt; got, (0, 0, 0), "{name}");
         assert_eq!(rt;
-            written.get(at..at + want.len()),
+            written.get(at..at.saturating_add(want.len())),
             Some(want),
             "{part}, {name}"
         );
@@ -305,5 +362,102 @@ fn a_device_that_fails_costs_nothing_that_came_before(rt: HostRuntime) -> Result
         let (_, file) = wrapped::<Brand, HostRuntime>(&rt, &whole, &[], &[], 10_000)?;
         assert_eq!(rt; Some(written.as_slice()), file.get(..len), "{name}");
     }
+    Ok(())
+}
+
+/// What a program answers and writes, and its messages.
+type Report = (u8, Vec<u8>, Vec<u8>);
+
+/// Runs the program over the feed of three frames, cut at byte 200.
+fn reported<N: Feed, R: AllocGlobal + Abort>(
+    rt: &R,
+    bytes: &[u8],
+    words: &Result<Vec<String>, WordsFault>,
+    room: usize,
+    message_room: usize,
+) -> Result<Report, Fail>
+    requires { N.bytes ≡ Some bytes.now }
+{
+    let mut feed = MemorySource::<N>::new(bytes, &[]);
+    let mut out = MemorySink::new(rt.alloc(), room, &[])?;
+    let mut messages = MemorySink::new(rt.alloc(), message_room, &[])?;
+    let code = run_program::<R, N, PictureLayout, _, _, _>(
+        rt,
+        words,
+        &mut feed,
+        &mut out,
+        &mut messages,
+    );
+    Ok((
+        code,
+        out.bytes().to_vec(rt.alloc())?,
+        messages.bytes().to_vec(rt.alloc())?,
+    ))
+}
+
+#[test]
+fn a_program_says_its_answer(rt: HostRuntime) -> Result<(), Fail> {
+    const CUT: &[u8] = b"ingest_server: status 3 refusal 112 at 200 other 0\n";
+    const SINK: &[u8] = b"ingest_server: status 7 refusal 117 at 1 other 0\n";
+    const WORDS: &[u8] = b"ingest_server: status 2 refusal 0 at 0 other 0\n\
+        usage: ingest_server wrap < FEED > FILE.mxf, or ingest_server --help\n";
+    // words, room of the output and of the messages; the code, bytes of the output and the first of them, and the messages
+    let cases: [(&[&str], usize, usize, u8, usize, &[u8], &[u8]); 10] = [
+        (&["wrap"], 10_000, 200, 3, 7072, &HEADER_KEY, CUT),
+        (&["wrap"], 10_000, 20, 3, 7072, &HEADER_KEY, b""),
+        (&["wrap"], 3_000, 200, 7, 0, b"", SINK),
+        (&[], 10_000, 200, 2, 0, b"", WORDS),
+        (&["unwrap"], 10_000, 200, 2, 0, b"", WORDS),
+        (
+            &["wrap", "--help", "x"],
+            10_000,
+            60,
+            2,
+            0,
+            b"",
+            &WORDS[..47],
+        ),
+        (
+            &["--version"],
+            10_000,
+            200,
+            0,
+            16,
+            b"ingest_server 1\n",
+            b"",
+        ),
+        (
+            &["wrap", "-h"],
+            10_000,
+            200,
+            0,
+            1164,
+            b"ingest_server wrap - ",
+            b"",
+        ),
+        (&["wrap", "-h"], 10, 200, 7, 0, b"", SINK),
+        (&["help", "x"], 10, 200, 7, 0, b"", SINK),
+    ];
+    let mut bytes = feed_of(rt.alloc(), 3)?;
+    bytes.truncate(200);
+    for (texts, room, message_room, code, len, front, said) in cases {
+        let words = Ok(words_of(rt.alloc(), texts)?);
+        let (got, written, messages) = reported::<Brand, HostRuntime>(
+            &rt,
+            &bytes,
+            &words,
+            room,
+            message_room,
+        )?;
+        assert_eq!(rt; got, code, "{texts:?}");
+        assert_eq!(rt; written.len(), len, "{texts:?}");
+        assert_eq!(rt; written.get(..front.len()), Some(front), "{texts:?}");
+        assert_eq!(rt; messages.as_slice(), said, "{texts:?}");
+    }
+    let none = Err(WordsFault::Memory);
+    let (got, _, messages) = reported::<Brand, HostRuntime>(&rt, &bytes, &none, 10, 200)?;
+    assert_eq!(rt; got, 1);
+    let want: &[u8] = b"ingest_server: status 1 refusal 1 at 0 other 0\n";
+    assert_eq!(rt; messages.as_slice(), want);
     Ok(())
 }

@@ -2,9 +2,12 @@
 
 ghost use Rattle.std.specs.Prelude.{◌≡◌, ◌≢◌, [], true, IfOk, OnOk};
 ghost use Rattle.clap.specs.Words.{app_of, fault_of, is_simple_and_free};
+ghost use Rattle.ingest_run.specs.Programs.{fault_answer};
 ghost use Rattle.ingest_run.specs.Words.{command_of, texts, wrap};
 
 use clap::error::ErrorKind;
+use rec_bytes::Status;
+use run_parts::{FAULTY_WORDS, MEMORY};
 use std::alloc::Global;
 use thiserror::Error;
 
@@ -15,13 +18,25 @@ pub(crate) enum Command {
     Wrap,
 }
 
-/// Why the words give no command.
+/// Why words give no command.
 #[derive(Clone, Copy, Debug, PartialEq, Eq, Error)]
-pub(crate) enum WordsFault {
+pub enum WordsFault {
+    /// Memory for them was wanted.
     #[error("out of memory")]
     Memory,
+    /// One of them isn't text, or they are no command with its options.
     #[error("the words are no command with its options")]
     Faulty,
+}
+
+/// The answer to words that give no command.
+pub(crate) fn words_status(fault: WordsFault) -> Status
+    ensures { result ≡ fault_answer fault }
+{
+    match fault {
+        WordsFault::Memory => MEMORY,
+        WordsFault::Faulty => FAULTY_WORDS,
+    }
 }
 
 /// Reads the words of a call, of which the first is the command's name. `Memory` may come at any words.

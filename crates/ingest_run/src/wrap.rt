@@ -1,18 +1,21 @@
 //! The command `wrap`: finished frames in, the closed file of a take out.
 
-ghost use Rattle.std.specs.Prelude.{◌≡◌, ◌≤◌, ◌<◌, ℕ, List, length, IfOk, IfErr, OnOk};
+ghost use Rattle.std.specs.Prelude.{◌≡◌, ◌≤◌, ◌<◌, ℕ, List, length};
 ghost use Rattle.rec_bytes.specs.Configuration.{Fields};
-ghost use Rattle.raw_feed.specs.Reading.{IfTold, GivesUnit};
-ghost use Rattle.ingest_run.specs.Causes.{HasFeedCauses};
-ghost use Rattle.ingest_run.specs.Runs.{Runs, Wraps};
-ghost use Rattle.ingest_run.specs.Steps.{EndsFeed, HasEndCause};
+ghost use Rattle.raw_feed.specs.declared.head.TheConstants.{FEED_HEAD_LEN};
+ghost use Rattle.run_parts.specs.Causes.{HasFeedCauses, counts};
+ghost use Rattle.run_parts.specs.Statuses.{end_answer, feed_end_answer};
+ghost use Rattle.ingest_run.specs.Runs.{Runs, Wraps, KeepsPace, outside};
+ghost use Rattle.ingest_run.specs.inner.Steps.{IfItem, IfEnd, ReadsUnit, EndsReading, StaysSilent, HasEndCause, ending_of};
 
-use crate::status::{MEMORY, feed_status, refusal, sink_status};
-use crate::take_file::TakeFile;
-use raw_feed::{Feed, FeedReader, Kind, MAX_UNIT, Sink, Source, Stage};
+use raw_feed::{
+    Feed, FeedFault, FeedReader, Kind, MAX_UNIT, Sink, Source, Stage, faults_are_placed,
+    feeds_are_one, readings_end, readings_grow,
+};
 use rec_bytes::{Failed, Memory, Status};
+use run_parts::{FeedEnd, PutFault, TakeFile, end_status};
 use std::alloc::Global;
-use take_core::TakeLayout;
+use take_layout::TakeLayout;
 
 /// Writes the closed file of a feed's units. It keeps one unit, the places of the units, and what stands between them.
 pub(crate) fn wrap<N: Feed, L: TakeLayout, S: Source<N>, W: Sink>(
@@ -21,67 +24,138 @@ pub(crate) fn wrap<N: Feed, L: TakeLayout, S: Source<N>, W: Sink>(
     out: &mut W,
 ) -> Status
     requires units { (cfg : Fields) (unit : List ℕ) → length unit ≤ MAX_UNIT → L.is_unit cfg unit }
-    ensures ran { IfTold (S.told feed.old) (S.told feed.new)
-        (λ before. Runs (Wraps L.closed) before (S.told feed.new) (W.written out.old) (W.written out.new) result) }
-    ensures cause { HasFeedCauses (S.fault_count feed.old) (S.fault_count feed.new) (W.fault_count out.old) (W.fault_count out.new) result }
+    ensures ran { Runs (Wraps L.closed) (KeepsPace L.growing)
+        (outside (S.told feed.old) (S.fault_count feed.old) (W.written out.old) (W.fault_count out.old))
+        (outside (S.told feed.new) (S.fault_count feed.new) (W.written out.new) (W.fault_count out.new)) result }
+    ensures cause { HasFeedCauses
+        (counts (S.fault_count feed.old) (W.fault_count out.old)) (counts (S.fault_count feed.new) (W.fault_count out.new)) result }
 {
+    let ended = wrap_units::<N, L, S, W>(alloc, feed, out);
+    end_status(ended, out)
+}
+
+/// Writes the closed file of the units before a feed's end, unit by unit as they are read.
+fn wrap_units<N: Feed, L: TakeLayout, S: Source<N>, W: Sink>(
+    alloc: Global,
+    feed: &mut S,
+    out: &mut W,
+) -> Result<FeedEnd, PutFault>
+    requires units { (cfg : Fields) (unit : List ℕ) → length unit ≤ MAX_UNIT → L.is_unit cfg unit }
+    ensures ran { Runs (Wraps L.closed) (KeepsPace L.growing)
+        (outside (S.told feed.old) (S.fault_count feed.old) (W.written out.old) (W.fault_count out.old))
+        (outside (S.told feed.new) (S.fault_count feed.new) (W.written out.new) (W.fault_count out.new))
+        (end_answer (W.fault_count out.new) result) }
+    ensures cause { HasFeedCauses
+        (counts (S.fault_count feed.old) (W.fault_count out.old)) (counts (S.fault_count feed.new) (W.fault_count out.new))
+        (end_answer (W.fault_count out.new) result) }
+{
+    feeds_are_one();
+    faults_are_placed();
+    readings_grow();
     let mut reader = match FeedReader::<N>::new(Kind::Units, feed) {
         Ok(reader) => reader,
-        Err(fault) => return feed_status(fault),
+        Err(fault) => return Ok(FeedEnd::Broken(fault)),
     };
     let mut file = match TakeFile::<L>::new(alloc, reader.config()) {
         Ok(file) => file,
-        Err(Memory) => return MEMORY,
+        Err(Memory) => return Err(PutFault::Memory),
     };
     match file.put_head(out) {
         Ok(()) => {}
-        Err(Failed) => return sink_status(out),
+        Err(Failed) => return Err(PutFault::Sink),
     }
     'units: loop {
         match next_unit(alloc, &mut reader, feed) {
-            Ok(unit) => match file.put_unit(&unit, out) {
+            Ok(Next::Item(unit)) => match file.put_unit(&unit, out) {
                 Ok(()) => {}
-                Err(stop) => return stop,
+                Err(fault) => return Err(fault),
             },
-            Err(status) => {
-                if status.code == MEMORY.code {
-                    return status;
-                }
-                match file.put_tail(out) {
-                    Ok(()) => return status,
-                    Err(Failed) => return sink_status(out),
-                }
-            }
+            Ok(Next::End(end)) => match file.put_tail(out) {
+                Ok(()) => return Ok(end),
+                Err(Failed) => return Err(PutFault::Sink),
+            },
+            Err(Memory) => return Err(PutFault::Memory),
         }
     }
 }
 
-/// The next unit of a feed, or the answer of the feed's end.
+/// What comes next in a feed.
+enum Next {
+    /// A unit.
+    Item(Vec<u8>),
+    /// The feed's end.
+    End(FeedEnd),
+}
+
+/// The next unit of a feed, or how it ends: behind as many units as its configuration allows only the next marker is read.
 fn next_unit<N: Feed, S: Source<N>>(
     alloc: Global,
     reader: &mut FeedReader<N>,
     feed: &mut S,
-) -> Result<Vec<u8>, Status>
+) -> Result<Next, Memory>
     requires open { reader.old.stage ≡ Stage.Open }
+    requires kind { reader.old.kind ≡ Kind.Units }
+    requires behind { FEED_HEAD_LEN ≤ reader.old.at }
     requires most { reader.old.count ≤ reader.old.config.max_frames }
-    ensures unit { IfOk result (λ unit. GivesUnit Stage.Open reader.old reader.new (S.told feed.old) (S.told feed.new) unit.items) }
-    ensures more { OnOk result (reader.old.count < reader.old.config.max_frames) }
-    ensures kept { OnOk result (S.fault_count feed.new ≡ S.fault_count feed.old) }
+    ensures unit { IfItem result (ReadsUnit reader.old reader.new (S.told feed.old) (S.told feed.new)) }
+    ensures ended { IfEnd result (EndsReading reader.old (S.told feed.old) (S.told feed.new)) }
+    ensures silent { StaysSilent (S.told feed.old) (S.told feed.new) }
 
-    ensures ended { IfErr result (λ status. IfTold (S.told feed.old) (S.told feed.new) (λ before. EndsFeed reader.old before (S.told feed.new) status)) }
-    ensures cause { IfErr result (HasEndCause (S.fault_count feed.old) (S.fault_count feed.new)) }
+    ensures kept { IfItem result (λ unit. S.fault_count feed.new ≡ S.fault_count feed.old) }
+    ensures cause { IfEnd result (λ status ending. HasEndCause (S.fault_count feed.old) (S.fault_count feed.new) status) }
 {
-    let max = u64::from(reader.config().max_frames);
-    if reader.read_count() < max {
-        return match reader.next_unit(alloc, feed) {
-            Ok(Some(unit)) => Ok(unit),
-            Ok(None) => Err(Status::DONE),
-            Err(fault) => Err(feed_status(fault)),
-        };
+    if reader.read_count() < u64::from(reader.config().max_frames) {
+        return read_unit(alloc, reader, feed);
     }
+    Ok(Next::End(read_end(reader, feed)))
+}
+
+/// The next unit of a feed, or how it ends, where its configuration allows one more.
+fn read_unit<N: Feed, S: Source<N>>(
+    alloc: Global,
+    reader: &mut FeedReader<N>,
+    feed: &mut S,
+) -> Result<Next, Memory>
+    requires open { reader.old.stage ≡ Stage.Open }
+    requires kind { reader.old.kind ≡ Kind.Units }
+    requires behind { FEED_HEAD_LEN ≤ reader.old.at }
+    requires room { reader.old.count < reader.old.config.max_frames }
+    ensures unit { IfItem result (ReadsUnit reader.old reader.new (S.told feed.old) (S.told feed.new)) }
+    ensures ended { IfEnd result (EndsReading reader.old (S.told feed.old) (S.told feed.new)) }
+    ensures silent { StaysSilent (S.told feed.old) (S.told feed.new) }
+
+    ensures kept { IfItem result (λ unit. S.fault_count feed.new ≡ S.fault_count feed.old) }
+    ensures cause { IfEnd result (λ status ending. HasEndCause (S.fault_count feed.old) (S.fault_count feed.new) status) }
+{
+    faults_are_placed();
+    readings_grow();
+    readings_end();
+    match reader.next_unit(alloc, feed) {
+        Ok(Some(unit)) => Ok(Next::Item(unit)),
+        Ok(None) => Ok(Next::End(FeedEnd::Clean)),
+        Err(FeedFault::Memory) => Err(Memory),
+        Err(fault) => Ok(Next::End(FeedEnd::Broken(fault))),
+    }
+}
+
+/// How a feed ends behind as many units as its configuration allows.
+fn read_end<N: Feed, S: Source<N>>(reader: &mut FeedReader<N>, feed: &mut S) -> FeedEnd
+    requires open { reader.old.stage ≡ Stage.Open }
+    requires kind { reader.old.kind ≡ Kind.Units }
+    requires behind { FEED_HEAD_LEN ≤ reader.old.at }
+    requires full { reader.old.count ≡ reader.old.config.max_frames }
+    ensures ended { EndsReading reader.old (S.told feed.old) (S.told feed.new) (feed_end_answer result) (ending_of result) }
+    ensures silent { StaysSilent (S.told feed.old) (S.told feed.new) }
+    ensures cause { HasEndCause (S.fault_count feed.old) (S.fault_count feed.new) (feed_end_answer result) }
+{
+    reader.config().ranges();
+    faults_are_placed();
+    readings_end();
     match reader.marker(feed) {
-        Ok(true) => Err(refusal(10, 95, max)),
-        Ok(false) => Err(Status::DONE),
-        Err(fault) => Err(feed_status(fault)),
+        Ok(true) => FeedEnd::Full {
+            items: reader.read_count(),
+        },
+        Ok(false) => FeedEnd::Clean,
+        Err(fault) => FeedEnd::Broken(fault),
     }
 }

@@ -4,7 +4,7 @@ use Rattle.std.proofs.lemmas.List.{take_at, drop_at, take-append-drop, length-ap
 use Rattle.std.specs.List.{flat_map, AllByRecursion}
 use Rattle.byteorder.specs.Endian.{big_bytes, big_from}
 use Rattle.byteorder.specs.Numbers.{big_number-reads_back, length-bytes_high_first}
-use Rattle.klv.specs.Items.{Item, IsItem, AreItems, EndsInside, spelled, length_bytes, length_limit}
+use Rattle.klv.specs.Items.{Item, IsItem, AreItems, EndsInside, item_of, spelled, length_bytes, length_limit}
 
 -- where two fronts of one length begin the same bytes, fronts and rests are the same
 same_front : (p q x y : List ℕ) → length p ≡ length q → p ++ x ≡ q ++ y → (p ≡ q) × (x ≡ y)
@@ -30,9 +30,7 @@ same_length (suc f) (suc g) m n x y a b e =
 
 -- an item is its three parts
 same_item : (a b : Item) → a.key ≡ b.key → a.form ≡ b.form → a.value ≡ b.value → a ≡ b
-same_item a b k f v =
-    let made : List ℕ → ℕ → List ℕ → Item = λ key form value. record { key = key; form = form; value = value } in
-    ap₂ (λ key form. made key form a.value) k f ∙ ap (made b.key b.form) v
+same_item a b k f v = ap₂ (λ key form. item_of key form a.value) k f ∙ ap (item_of b.key b.form) v
 
 -- no item begins another
 pub first_is_one : (a b : Item) (x y : List ℕ) → IsItem a → IsItem b → spelled a ++ x ≡ spelled b ++ y → (a ≡ b) × (x ≡ y)

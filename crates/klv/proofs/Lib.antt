@@ -1,3 +1,5 @@
 pub mod ItemLemmas
 pub mod HeadLemmas
-pub mod PictureLemmas
+pub mod NumberLemmas
+pub mod ReadLemmas
+pub mod RefusalLemmas

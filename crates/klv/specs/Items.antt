@@ -9,6 +9,10 @@ pub record Item : Type 0 where
   pub form : ℕ
   pub value : List ℕ
 
+-- the item of a key, a form and a value
+abbrev pub item_of : List ℕ → ℕ → List ℕ → Item
+item_of key form value = record { key = key; form = form; value = value }
+
 -- a length as it is spelled: one byte, or 80h + form and then so many bytes, the highest first
 unfoldable pub length_bytes : ℕ → ℕ → List ℕ
 length_bytes zero len = len ∷ []

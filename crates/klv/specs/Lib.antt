@@ -1,3 +1,5 @@
 pub mod Head
 pub mod Items
-pub mod Picture
+pub mod Reads
+pub mod inner
+pub mod laws

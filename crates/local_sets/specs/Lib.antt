@@ -1,4 +1,3 @@
-pub mod Laws
 pub mod Sets
 pub mod Values
-pub mod Writes
+pub mod laws

@@ -2,12 +2,15 @@
 
 ghost use Rattle.std.specs.Prelude.{◌≡◌, ◌+◌, ◌^◌, ◌<◌, ◌≤◌, length};
 ghost use Rattle.rec_bytes.specs.Places.{with_bytes};
-ghost use Rattle.klv.specs.Items.{klv_head};
-ghost use Rattle.local_sets.specs.Sets.{item_bytes, items_bytes, local_set};
+ghost use Rattle.klv.specs.declared.head.TheConstants.{SET_HEAD_LEN};
+ghost use Rattle.local_sets.specs.Sets.{item, item_bytes, items_bytes, local_set};
 
 use crate::value::{Value, put_value, value_len};
-use klv::{Form, put_klv_head};
+use klv::{Form, SET_HEAD_LEN, put_klv_head_at};
 use rec_bytes::put_u16;
+
+/// Bytes of an item before its value: its local tag and its length.
+pub const ITEM_HEAD_LEN: usize = 2 + 2;
 
 /// An item of a local set.
 #[derive(Clone, Copy, Debug, PartialEq, Eq)]
@@ -16,6 +19,15 @@ pub struct Item {
     pub tag: u16,
     /// What the item holds.
     pub value: Value,
+}
+
+impl Item {
+    /// The item of a tag and a value.
+    pub fn new(tag: u16, value: Value) -> Item
+        ensures { result ≡ item tag value }
+    {
+        Item { tag, value }
+    }
 }
 
 /// Bytes that items have as they are spelled.
@@ -45,29 +57,20 @@ pub fn put_items(items: &[Item], out: &mut [u8], at: usize) -> usize
 
 /// Writes a set at a place, and answers the place behind it.
 pub fn put_set(key: &[u8; 16], items: &[Item], out: &mut [u8], at: usize) -> usize
-    requires room { at + 20 + length (items_bytes items.now) ≤ length out.old }
+    requires room { at + SET_HEAD_LEN + length (items_bytes items.now) ≤ length out.old }
     requires fits { length (items_bytes items.now) < 2 ^ 24 }
-    ensures end { result ≡ at + 20 + length (items_bytes items.now) }
+    ensures end { result ≡ at + SET_HEAD_LEN + length (items_bytes items.now) }
     ensures written { out.new ≡ with_bytes out.old at (local_set key.now items.now) }
 {
-    let start = put_set_head(key, items_len(items), out, at);
+    let len = items_len(items) as u64;
+    let start = put_klv_head_at(key, len, Form::Three, out, at);
     put_items(items, out, start)
-}
-
-/// Writes what stands before the items of a set.
-fn put_set_head(key: &[u8; 16], len: usize, out: &mut [u8], at: usize) -> usize
-    requires room { at + 20 ≤ length out.old }
-    requires fits { len < 2 ^ 24 }
-    ensures end { result ≡ at + 20 }
-    ensures written { out.new ≡ with_bytes out.old at (klv_head key.now 3 len) }
-{
-    at + put_klv_head(key, len as u64, Form::Three, &mut out[at..])
 }
 
 fn item_len(item: &Item) -> usize
     ensures { result ≡ length (item_bytes item.now) }
 {
-    4 + usize::from(value_len(&item.value))
+    ITEM_HEAD_LEN + usize::from(value_len(&item.value))
 }
 
 fn put_item(item: &Item, out: &mut [u8], at: usize) -> usize
@@ -77,5 +80,5 @@ fn put_item(item: &Item, out: &mut [u8], at: usize) -> usize
 {
     put_u16(out, at, item.tag);
     put_u16(out, at + 2, value_len(&item.value));
-    put_value(&item.value, out, at + 4)
+    put_value(&item.value, out, at + ITEM_HEAD_LEN)
 }

@@ -67,7 +67,7 @@ fn each_kind_of_value_is_spelled_with_tag_and_length(rt: HostRuntime) {
         ),
     ];
     for (value, spelled) in cases {
-        let items = [Item { tag: 0x1234, value }];
+        let items = [Item::new(0x1234, value)];
         let mut out = [0xee; 60];
         let end = put_items(&items, &mut out, 2);
         assert_eq!(rt; items_len(&items), spelled.len(), "bytes of {value:?}");
@@ -81,14 +81,8 @@ fn each_kind_of_value_is_spelled_with_tag_and_length(rt: HostRuntime) {
 #[test]
 fn a_set_has_its_key_a_length_of_three_bytes_and_its_items(rt: HostRuntime) {
     let items = [
-        Item {
-            tag: 0x3f08,
-            value: Value::Byte(0),
-        },
-        Item {
-            tag: 0x3f07,
-            value: Value::Word(1),
-        },
+        Item::new(0x3f08, Value::Byte(0)),
+        Item::new(0x3f07, Value::Word(1)),
     ];
     let mut out = [0xee; 36];
     let end = put_set(&LABEL, &items, &mut out, 1);

@@ -3,9 +3,16 @@
 ghost use Rattle.std.specs.Prelude.{◌≡◌, ◌+◌, ◌≤◌, [], ◌∷◌, ◌++◌, length, take};
 ghost use Rattle.byteorder.specs.Endian.{big_bytes};
 ghost use Rattle.rec_bytes.specs.Places.{with_bytes};
+ghost use Rattle.local_sets.specs.declared.value.TheConstants.{BATCH_HEAD_LEN, ID_LEN};
 ghost use Rattle.local_sets.specs.Values.{value_bytes, duration_bytes, batch_bytes, utf16_bytes};
 
 use rec_bytes::{put_bytes, put_u8, put_u16, put_u32, put_u64};
+
+/// Bytes of a label or an identifier.
+pub const ID_LEN: usize = 16;
+
+/// Bytes of a batch before its items: how many there are, and the bytes of each.
+pub const BATCH_HEAD_LEN: usize = 4 + 4;
 
 /// A value of an item, spelled high byte first.
 #[derive(Clone, Copy, Debug, PartialEq, Eq)]
@@ -47,8 +54,10 @@ pub fn value_len(value: &Value) -> u16
         Value::Long(_) | Value::Ratio(_, _) | Value::Duration(_) | Value::EmptyBatch => 8,
         Value::Label(bytes) => id_len(&bytes),
         Value::Umid(bytes) => umid_len(&bytes),
-        Value::BatchOfOne(item) => 8 + id_len(&item),
-        Value::BatchOfTwo(first, second) => 8 + id_len(&first) + id_len(&second),
+        Value::BatchOfOne(item) => BATCH_HEAD_LEN as u16 + id_len(&item),
+        Value::BatchOfTwo(first, second) => BATCH_HEAD_LEN as u16
+            + id_len(&first)
+            + id_len(&second),
         Value::Text(letters, count) => text_len(letters_of(&letters, count)),
     }
 }
@@ -85,13 +94,13 @@ pub fn put_value(value: &Value, out: &mut [u8], at: usize) -> usize
         Value::Short(number) => put_short(number, out, at),
         Value::Word(number) => put_word(number, out, at),
         Value::Long(number) => put_long(number, out, at),
-        Value::Ratio(numerator, denominator) => put_ratio(numerator, denominator, out, at),
+        Value::Ratio(numerator, denominator) => put_words(numerator, denominator, out, at),
         Value::Duration(count) => put_duration(count, out, at),
-        Value::Label(bytes) => put_label(&bytes, out, at),
+        Value::Label(bytes) => put_id(&bytes, out, at),
         Value::Umid(bytes) => put_umid(&bytes, out, at),
-        Value::EmptyBatch => put_ratio(0, 16, out, at),
-        Value::BatchOfOne(item) => put_one(&item, out, at),
-        Value::BatchOfTwo(first, second) => put_two(&first, &second, out, at),
+        Value::EmptyBatch => put_batch_head(0, out, at),
+        Value::BatchOfOne(item) => put_batch_of_one(&item, out, at),
+        Value::BatchOfTwo(first, second) => put_batch_of_two(&first, &second, out, at),
         Value::Text(letters, count) => put_text(letters_of(&letters, count), out, at),
     }
 }
@@ -133,13 +142,13 @@ fn put_long(number: u64, out: &mut [u8], at: usize) -> usize
 }
 
 /// Writes two numbers of 32 bits.
-fn put_ratio(numerator: u32, denominator: u32, out: &mut [u8], at: usize) -> usize
+fn put_words(first: u32, second: u32, out: &mut [u8], at: usize) -> usize
     requires { at + 8 ≤ length out.old }
     ensures end { result ≡ at + 8 }
-    ensures written { out.new ≡ with_bytes out.old at (big_bytes 4 numerator ++ big_bytes 4 denominator) }
+    ensures written { out.new ≡ with_bytes out.old at (big_bytes 4 first ++ big_bytes 4 second) }
 {
-    put_u32(out, at, numerator);
-    put_word(denominator, out, at + 4)
+    put_u32(out, at, first);
+    put_word(second, out, at + 4)
 }
 
 fn put_duration(count: Option<u64>, out: &mut [u8], at: usize) -> usize
@@ -153,13 +162,14 @@ fn put_duration(count: Option<u64>, out: &mut [u8], at: usize) -> usize
     }
 }
 
-fn put_label(bytes: &[u8; 16], out: &mut [u8], at: usize) -> usize
+/// Writes a label or an identifier.
+fn put_id(bytes: &[u8; 16], out: &mut [u8], at: usize) -> usize
     requires { at + length bytes.now ≤ length out.old }
     ensures end { result ≡ at + length bytes.now }
     ensures written { out.new ≡ with_bytes out.old at bytes.now }
 {
     put_bytes(out, at, bytes);
-    at + 16
+    at + ID_LEN
 }
 
 fn put_umid(bytes: &[u8; 32], out: &mut [u8], at: usize) -> usize
@@ -171,25 +181,34 @@ fn put_umid(bytes: &[u8; 32], out: &mut [u8], at: usize) -> usize
     at + 32
 }
 
-/// Writes a batch of one.
-fn put_one(item: &[u8; 16], out: &mut [u8], at: usize) -> usize
+/// Writes what stands before the items of a batch: how many there are, and the bytes of each.
+fn put_batch_head(count: u32, out: &mut [u8], at: usize) -> usize
+    requires { at + BATCH_HEAD_LEN ≤ length out.old }
+    ensures end { result ≡ at + BATCH_HEAD_LEN }
+    ensures written { out.new ≡ with_bytes out.old at (big_bytes 4 count ++ big_bytes 4 ID_LEN) }
+{
+    put_words(count, ID_LEN as u32, out, at)
+}
+
+/// Writes a batch of one label or identifier.
+fn put_batch_of_one(item: &[u8; 16], out: &mut [u8], at: usize) -> usize
     requires { at + length (batch_bytes (item.now ∷ [])) ≤ length out.old }
     ensures end { result ≡ at + length (batch_bytes (item.now ∷ [])) }
     ensures written { out.new ≡ with_bytes out.old at (batch_bytes (item.now ∷ [])) }
 {
-    let items = put_ratio(1, 16, out, at);
-    put_label(item, out, items)
+    let items = put_batch_head(1, out, at);
+    put_id(item, out, items)
 }
 
-/// Writes a batch of two.
-fn put_two(first: &[u8; 16], second: &[u8; 16], out: &mut [u8], at: usize) -> usize
+/// Writes a batch of two labels or identifiers.
+fn put_batch_of_two(first: &[u8; 16], second: &[u8; 16], out: &mut [u8], at: usize) -> usize
     requires { at + length (batch_bytes (first.now ∷ second.now ∷ [])) ≤ length out.old }
     ensures end { result ≡ at + length (batch_bytes (first.now ∷ second.now ∷ [])) }
     ensures written { out.new ≡ with_bytes out.old at (batch_bytes (first.now ∷ second.now ∷ [])) }
 {
-    let items = put_ratio(2, 16, out, at);
-    let next = put_label(first, out, items);
-    put_label(second, out, next)
+    let items = put_batch_head(2, out, at);
+    let next = put_id(first, out, items);
+    put_id(second, out, next)
 }
 
 /// The letters of a text that count.

@@ -1,74 +1,131 @@
 -- Index table segments (SMPTE ST 377-1). docs/FORMATS.md, "Index table segments".
-use Rattle.std.specs.Prelude.{ℕ, ◌+◌, List, [], ◌∷◌, ◌++◌, length, map, replicate}
+use Rattle.std.specs.Prelude.{◌≡◌, ℕ, List, [], ◌∷◌, ◌++◌, length, map}
 use Rattle.std.specs.List.{flat_map}
 use Rattle.byteorder.specs.Endian.{big_bytes}
-use Rattle.klv.specs.Items.{spelled}
+use Rattle.klv.specs.Items as klv
 use Rattle.rec_bytes.specs.Configuration.{Fields}
-use Rattle.local_sets.specs.Sets.{items_bytes}
+use Rattle.local_sets.specs.Sets.{RawItem, raw_bytes, item, items_bytes}
 use Rattle.local_sets.specs.declared.set.Item.{Item}
-use Rattle.local_sets.specs.declared.value.Value.{Value}
 use Rattle.local_sets.specs.declared.value.Value.TheVariants.{Byte, Word, Long, Ratio, Label}
-use Rattle.mxf_metadata.specs.declared.ids.Ids.{Ids}
-use Rattle.mxf_metadata.specs.Pictures.{edit_rate}
-use Rattle.mxf_metadata.specs.declared.tags.TheConstants.{INSTANCE_ID, INDEX_SID, BODY_SID}
-use Rattle.mxf_index.specs.declared.segment.TheConstants.{INDEX_SEGMENT_KEY}
-use Rattle.mxf_index.specs.declared.tags.TheConstants.{INDEX_EDIT_RATE, INDEX_START_POSITION, INDEX_DURATION, EDIT_UNIT_BYTE_COUNT, SLICE_COUNT, DELTA_ENTRIES, INDEX_ENTRIES, POS_TABLE_COUNT}
-use Rattle.mxf_index.specs.declared.tags.TheConstants.{INDEX_STREAM, ESSENCE_STREAM, RANDOM_ACCESS, DELTA_SIZE, ENTRY_SIZE}
+use Rattle.mxf_names.specs.declared.ids.Ids.{Ids}
+use Rattle.mxf_names.specs.EditRates.{edit_rate}
+use Rattle.mxf_names.specs.declared.tags.TheConstants.{INSTANCE_ID, INDEX_SID, BODY_SID}
+use Rattle.mxf_names.specs.declared.keys.TheConstants.{INDEX_SEGMENT_KEY}
+use Rattle.mxf_names.specs.declared.streams.TheConstants.{INDEX_STREAM, ESSENCE_STREAM}
+use Rattle.mxf_index.specs.declared.tags.TheConstants.{INDEX_EDIT_RATE, INDEX_START_POSITION, INDEX_DURATION, EDIT_UNIT_BYTE_COUNT, SLICE_COUNT}
+use Rattle.mxf_index.specs.declared.tags.TheConstants.{DELTA_ENTRIES, INDEX_ENTRIES, POS_TABLE_COUNT}
+use Rattle.mxf_index.specs.declared.tags.TheConstants.{RANDOM_ACCESS, DELTA_SIZE, ENTRY_SIZE}
 
--- an item whose value is one of those of local sets
-abbrev pub item : ℕ → Value → Item
-item tag value = record { tag = tag; value = value }
+-- where an element of an edit unit stands in it: reordering, slice, and place behind the slice's first byte
+pub record DeltaEntry : Type 0 where
+  pub reordering : ℕ
+  pub slice : ℕ
+  pub offset : ℕ
 
--- the identifier of the segment that begins with a frame
-abbrev pub segment_id : Ids → ℕ → List ℕ
-segment_id ids first = ids.index ++ big_bytes 8 first
+-- what a segment says of a frame: frames until it is shown, frames since its key frame, flags, and its place in the stream
+pub record IndexEntry : Type 0 where
+  pub temporal : ℕ
+  pub key_frame : ℕ
+  pub flags : ℕ
+  pub stream : ℕ
 
--- which frames, how fast, and of which streams
-abbrev pub range_items : Fields → ℕ → ℕ → List Item
-range_items cfg first count =
-    item INDEX_EDIT_RATE (Ratio (edit_rate cfg.rate).0 (edit_rate cfg.rate).1)
-    ∷ item INDEX_START_POSITION (Long first)
-    ∷ item INDEX_DURATION (Long count)
-    ∷ item EDIT_UNIT_BYTE_COUNT (Word 0)
-    ∷ item INDEX_SID (Word INDEX_STREAM)
-    ∷ item BODY_SID (Word ESSENCE_STREAM)
-    ∷ item SLICE_COUNT (Byte 0)
-    ∷ []
+-- what an index table segment says of frames that differ in length, have one slice each, and no table of positions
+pub record Segment : Type 0 where
+  pub id : List ℕ
+  pub rate : ℕ × ℕ
+  pub first : ℕ
+  pub duration : ℕ
+  pub index_sid : ℕ
+  pub body_sid : ℕ
+  pub deltas : List DeltaEntry
+  pub entries : List IndexEntry
 
--- the items before the arrays
-abbrev pub opening_items : Fields → Ids → ℕ → ℕ → List Item
-opening_items cfg ids first count = item INSTANCE_ID (Label (segment_id ids first)) ∷ range_items cfg first count
+-- a delta entry as it is spelled
+abbrev pub delta_bytes : DeltaEntry → List ℕ
+delta_bytes delta = big_bytes 1 delta.reordering ++ big_bytes 1 delta.slice ++ big_bytes 4 delta.offset
 
--- the item behind the arrays
-abbrev pub closing_items : List Item
-closing_items = item POS_TABLE_COUNT (Byte 0) ∷ []
+-- an index entry as it is spelled
+abbrev pub entry_bytes : IndexEntry → List ℕ
+entry_bytes entry = big_bytes 1 entry.temporal ++ big_bytes 1 entry.key_frame ++ big_bytes 1 entry.flags ++ big_bytes 8 entry.stream
 
 -- lists of bytes, one after the other
 abbrev pub joined : List (List ℕ) → List ℕ
 joined entries = flat_map (λ entry. entry) entries
 
 -- an item whose value is an array: count, bytes of an entry, entries
-abbrev pub array_item : ℕ → ℕ → List (List ℕ) → List ℕ
-array_item tag size entries =
-    big_bytes 2 tag ++ big_bytes 2 (8 + length (joined entries)) ++ big_bytes 4 (length entries) ++ big_bytes 4 size ++ joined entries
+abbrev pub array_item : ℕ → ℕ → List (List ℕ) → RawItem
+array_item tag size entries = record { tag = tag; value = big_bytes 4 (length entries) ++ big_bytes 4 size ++ joined entries }
 
--- the one delta entry: no reordering, slice 0, and the element begins the edit unit
-abbrev pub delta_bytes : List ℕ
-delta_bytes = replicate 6 0
+-- which frames, how fast, and of which streams
+abbrev pub range_items : Segment → List Item
+range_items s =
+    item INDEX_EDIT_RATE (Ratio s.rate.0 s.rate.1)
+    ∷ item INDEX_START_POSITION (Long s.first)
+    ∷ item INDEX_DURATION (Long s.duration)
+    ∷ item EDIT_UNIT_BYTE_COUNT (Word 0)
+    ∷ item INDEX_SID (Word s.index_sid)
+    ∷ item BODY_SID (Word s.body_sid)
+    ∷ item SLICE_COUNT (Byte 0)
+    ∷ []
 
--- the entry of a frame: no reordering, its own key frame, its flags, and where its element stands in the stream
-abbrev pub entry_bytes : ℕ → List ℕ
-entry_bytes stream = 0 ∷ 0 ∷ RANDOM_ACCESS ∷ big_bytes 8 stream
+-- the items before the arrays
+abbrev pub opening_items : Segment → List Item
+opening_items s = item INSTANCE_ID (Label s.id) ∷ range_items s
 
--- the items of a segment, by the stream offsets of its frames
-abbrev pub segment_items : Fields → Ids → ℕ → List ℕ → List ℕ
-segment_items cfg ids first streams =
-    items_bytes (opening_items cfg ids first (length streams))
-    ++ array_item DELTA_ENTRIES DELTA_SIZE (delta_bytes ∷ [])
-    ++ array_item INDEX_ENTRIES ENTRY_SIZE (map entry_bytes streams)
-    ++ items_bytes closing_items
+-- the item behind the arrays
+abbrev pub closing_items : List Item
+closing_items = item POS_TABLE_COUNT (Byte 0) ∷ []
 
--- a segment as it is spelled
+-- the array of the delta entries as it is spelled
+abbrev pub delta_array : List DeltaEntry → List ℕ
+delta_array deltas = raw_bytes (array_item DELTA_ENTRIES DELTA_SIZE (map delta_bytes deltas))
+
+-- the array of the index entries as it is spelled
+abbrev pub entry_array : List IndexEntry → List ℕ
+entry_array entries = raw_bytes (array_item INDEX_ENTRIES ENTRY_SIZE (map entry_bytes entries))
+
+-- what a segment holds: its items one after the other
+abbrev pub segment_value : Segment → List ℕ
+segment_value s = items_bytes (opening_items s) ++ delta_array s.deltas ++ entry_array s.entries ++ items_bytes closing_items
+
+-- an item is this segment, whatever the form of its length
+pub record IsSegment (item : klv.Item) (s : Segment) : Type 0 where
+  pub key : item.key ≡ INDEX_SEGMENT_KEY
+  pub value : item.value ≡ segment_value s
+
+-- ours: its length is 83h and three bytes
+abbrev pub segment_item : Segment → klv.Item
+segment_item s = klv.item_of INDEX_SEGMENT_KEY 3 (segment_value s)
+
+-- the identifier of the segment that begins with a frame (own)
+abbrev pub segment_id : Ids → ℕ → List ℕ
+segment_id ids first = ids.index ++ big_bytes 8 first
+
+-- the one delta entry of ours: no reordering, slice 0, and the element begins the edit unit
+abbrev pub delta_of_picture : DeltaEntry
+delta_of_picture = record { reordering = 0; slice = 0; offset = 0 }
+
+-- the entry of a frame of ours, by its stream offset: no reordering, and its own key frame
+abbrev pub entry_of_frame : ℕ → IndexEntry
+entry_of_frame stream = record { temporal = 0; key_frame = 0; flags = RANDOM_ACCESS; stream = stream }
+
+-- as it is spelled
+abbrev pub frame_bytes : ℕ → List ℕ
+frame_bytes stream = entry_bytes (entry_of_frame stream)
+
+-- the segment of a take's frames from one on, by their stream offsets
+abbrev pub segment_of : Fields → Ids → ℕ → List ℕ → Segment
+segment_of cfg ids first streams = record {
+  id = segment_id ids first;
+  rate = edit_rate cfg.rate;
+  first = first;
+  duration = length streams;
+  index_sid = INDEX_STREAM;
+  body_sid = ESSENCE_STREAM;
+  deltas = delta_of_picture ∷ [];
+  entries = map entry_of_frame streams;
+}
+
+-- as it is spelled
 unfoldable pub index_segment : Fields → Ids → ℕ → List ℕ → List ℕ
-index_segment cfg ids first streams =
-    spelled (record { key = INDEX_SEGMENT_KEY; form = 3; value = segment_items cfg ids first streams })
+index_segment cfg ids first streams = klv.spelled (segment_item (segment_of cfg ids first streams))

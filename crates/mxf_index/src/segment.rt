@@ -3,26 +3,41 @@
 ghost use Rattle.std.specs.Prelude.{◌≡◌, ◌+◌, ◌*◌, ◌^◌, ◌≤◌, ◌<◌, [], ◌∷◌, ◌++◌, length, map};
 ghost use Rattle.std.specs.List.{flat_map};
 ghost use Rattle.byteorder.specs.Endian.{big_bytes};
-ghost use Rattle.klv.specs.Items.{klv_head};
 ghost use Rattle.local_sets.specs.Sets.{items_bytes};
 ghost use Rattle.rec_bytes.specs.Places.{with_bytes};
 ghost use Rattle.rec_bytes.specs.Views.{view};
-ghost use Rattle.mxf_index.specs.Segments.{array_item, closing_items, delta_bytes, entry_bytes, index_segment, item, opening_items, segment_id};
-ghost use Rattle.mxf_index.specs.declared.tags.TheConstants.{DELTA_ENTRIES, INDEX_ENTRIES, DELTA_SIZE, ENTRY_SIZE};
+ghost use Rattle.mxf_index.specs.Segments.{closing_items, delta_array, delta_of_picture, entry_array, entry_of_frame, frame_bytes, index_segment};
+ghost use Rattle.mxf_index.specs.Segments.{opening_items, segment_id, segment_of};
+ghost use Rattle.mxf_index.specs.declared.segment.TheConstants.{ARRAY_HEAD_LEN, CLOSING_LEN, DELTAS_LEN, OPENING_LEN};
+ghost use Rattle.local_sets.specs.declared.value.TheConstants.{BATCH_HEAD_LEN};
+ghost use Rattle.mxf_index.specs.declared.tags.TheConstants.{ENTRY_SIZE};
 
 use crate::tags::*;
-use klv::{Form, put_klv_head};
-use local_sets::{Item, Value, put_items};
-use mxf_metadata::{BODY_SID, INDEX_SID, INSTANCE_ID, Ids, edit_rate};
+use klv::{Form, SET_HEAD_LEN, put_klv_head_at};
+use local_sets::{BATCH_HEAD_LEN, ITEM_HEAD_LEN, Item, Value, put_items};
+use mxf_names::{
+    BODY_SID, ESSENCE_STREAM, INDEX_SEGMENT_KEY, INDEX_SID, INDEX_STREAM, INSTANCE_ID, Ids,
+    edit_rate,
+};
 use rec_bytes::{Config, put_bytes, put_u8, put_u16, put_u32, put_u64};
 
-/// The key of an index table segment (SMPTE ST 377-1).
-pub const INDEX_SEGMENT_KEY: [u8; 16] = [
-    0x06, 0x0e, 0x2b, 0x34, 0x02, 0x53, 0x01, 0x01, 0x0d, 0x01, 0x02, 0x01, 0x01, 0x10, 0x01, 0x00,
-];
+/// Bytes of the eight items before the arrays.
+const OPENING_LEN: usize = 8 * ITEM_HEAD_LEN + (16 + 8 + 8 + 8 + 4 + 4 + 4 + 1);
+
+/// Bytes of an array before its entries.
+const ARRAY_HEAD_LEN: usize = ITEM_HEAD_LEN + BATCH_HEAD_LEN;
+
+/// Bytes of the array of one delta entry.
+const DELTAS_LEN: usize = ARRAY_HEAD_LEN + DELTA_SIZE as usize;
+
+/// Bytes of the item behind the arrays.
+const CLOSING_LEN: usize = ITEM_HEAD_LEN + 1;
+
+/// Bytes of a segment's items without its entries.
+const ITEMS_LEN: usize = OPENING_LEN + DELTAS_LEN + ARRAY_HEAD_LEN + CLOSING_LEN;
 
 /// Bytes of a segment without its entries.
-pub const SEGMENT_LEN: usize = 140;
+pub const SEGMENT_LEN: usize = SET_HEAD_LEN + ITEMS_LEN;
 
 /// Most frames of a segment: the length of the item that holds the entries has two bytes.
 pub const MAX_ENTRIES: u32 = 5957;
@@ -44,54 +59,49 @@ pub fn put_segment(cfg: &Config, ids: &Ids, first: u64, streams: &[u64], out: &m
     ensures count { result ≡ SEGMENT_LEN + ENTRY_SIZE * length streams.now }
     ensures written { out.new ≡ with_bytes out.old 0 (index_segment (view cfg.now) ids.now first streams.now) }
 {
-    let count = streams.len() as u32;
-    put_key(count, out);
-    put_opening(cfg, ids, first, count, out, 20);
-    put_deltas(out, 105);
-    let end = put_entry_array(streams, out, 123);
-    put_closing(out, end)
+    let len = ITEMS_LEN + ENTRY_SIZE as usize * streams.len();
+    let opening_at = put_klv_head_at(&INDEX_SEGMENT_KEY, len as u64, Form::Three, out, 0);
+    let deltas_at = put_opening(cfg, ids, first, streams, out, opening_at);
+    let entries_at = put_deltas(out, deltas_at);
+    let closing_at = put_entry_array(streams, out, entries_at);
+    put_closing(out, closing_at)
 }
 
-fn put_key(count: u32, out: &mut [u8])
-    requires few { count ≤ MAX_ENTRIES }
-    requires room { 20 ≤ length out.old }
-    ensures { out.new ≡ with_bytes out.old 0 (klv_head INDEX_SEGMENT_KEY 3 (120 + 11 * count)) }
-{
-    let len = 120 + 11 * u64::from(count);
-    put_klv_head(&INDEX_SEGMENT_KEY, len, Form::Three, out);
-}
-
-/// Writes the items before the arrays, 85 bytes.
-fn put_opening(cfg: &Config, ids: &Ids, first: u64, count: u32, out: &mut [u8], at: usize)
-    requires room { at + 85 ≤ length out.old }
+/// Writes the items before the arrays, and answers the place behind them.
+fn put_opening(
+    cfg: &Config,
+    ids: &Ids,
+    first: u64,
+    streams: &[u64],
+    out: &mut [u8],
+    at: usize,
+) -> usize
+    requires few { length streams.now ≤ MAX_ENTRIES }
+    requires room { at + OPENING_LEN ≤ length out.old }
     ensures sized { length ids.now.index ≡ 8 }
-    ensures written { out.new ≡ with_bytes out.old at (items_bytes (opening_items (view cfg.now) ids.now first count)) }
+    ensures behind { result ≡ at + OPENING_LEN }
+    ensures written { out.new ≡ with_bytes out.old at (items_bytes (opening_items (segment_of (view cfg.now) ids.now first streams.now))) }
 {
-    put_items(&opening(cfg, ids, first, count), out, at);
+    put_items(&opening(cfg, ids, first, streams), out, at)
 }
 
-fn opening(cfg: &Config, ids: &Ids, first: u64, count: u32) -> [Item; 8]
+fn opening(cfg: &Config, ids: &Ids, first: u64, streams: &[u64]) -> [Item; 8]
+    requires { length streams.now ≤ MAX_ENTRIES }
     ensures sized { length ids.now.index ≡ 8 }
-    ensures items { result ≡ opening_items (view cfg.now) ids.now first count }
+    ensures items { result ≡ opening_items (segment_of (view cfg.now) ids.now first streams.now) }
 {
     let id = segment_id(ids, first);
     let rate = edit_rate(cfg.rate);
     [
-        item(INSTANCE_ID, Value::Label(id)),
-        item(INDEX_EDIT_RATE, Value::Ratio(rate.0, rate.1)),
-        item(INDEX_START_POSITION, Value::Long(first)),
-        item(INDEX_DURATION, Value::Long(u64::from(count))),
-        item(EDIT_UNIT_BYTE_COUNT, Value::Word(0)),
-        item(INDEX_SID, Value::Word(INDEX_STREAM)),
-        item(BODY_SID, Value::Word(ESSENCE_STREAM)),
-        item(SLICE_COUNT, Value::Byte(0)),
+        Item::new(INSTANCE_ID, Value::Label(id)),
+        Item::new(INDEX_EDIT_RATE, Value::Ratio(rate.0, rate.1)),
+        Item::new(INDEX_START_POSITION, Value::Long(first)),
+        Item::new(INDEX_DURATION, Value::Long(streams.len() as u64)),
+        Item::new(EDIT_UNIT_BYTE_COUNT, Value::Word(0)),
+        Item::new(INDEX_SID, Value::Word(INDEX_STREAM)),
+        Item::new(BODY_SID, Value::Word(ESSENCE_STREAM)),
+        Item::new(SLICE_COUNT, Value::Byte(0)),
     ]
-}
-
-fn item(tag: u16, value: Value) -> Item
-    ensures { result ≡ item tag value }
-{
-    Item { tag, value }
 }
 
 fn segment_id(ids: &Ids, first: u64) -> [u8; 16]
@@ -104,33 +114,33 @@ fn segment_id(ids: &Ids, first: u64) -> [u8; 16]
     id
 }
 
-/// Writes the array of the one delta entry, 18 bytes.
-fn put_deltas(out: &mut [u8], at: usize)
-    requires room { at + 18 ≤ length out.old }
-    ensures { out.new ≡ with_bytes out.old at (array_item DELTA_ENTRIES DELTA_SIZE (delta_bytes ∷ [])) }
+/// Writes the array of the one delta entry, and answers the place behind it.
+fn put_deltas(out: &mut [u8], at: usize) -> usize
+    requires room { at + DELTAS_LEN ≤ length out.old }
+    ensures behind { result ≡ at + DELTAS_LEN }
+    ensures written { out.new ≡ with_bytes out.old at (delta_array (delta_of_picture ∷ [])) }
 {
-    put_array_head(DELTA_ENTRIES, 14, 1, DELTA_SIZE, out, at);
-    put_u32(out, at + 12, 0);
-    put_u16(out, at + 16, 0);
+    let entry_at = put_array_head(DELTA_ENTRIES, 1, DELTA_SIZE, out, at);
+    put_u32(out, entry_at, 0);
+    put_u16(out, entry_at + 4, 0);
+    at + DELTAS_LEN
 }
 
 /// Writes the array of the entries, and answers the place behind it.
 fn put_entry_array(streams: &[u64], out: &mut [u8], at: usize) -> usize
     requires few { length streams.now ≤ MAX_ENTRIES }
-    requires room { at + 12 + 11 * length streams.now ≤ length out.old }
-    ensures behind { result ≡ at + 12 + 11 * length streams.now }
-    ensures written { out.new ≡ with_bytes out.old at (array_item INDEX_ENTRIES ENTRY_SIZE (map entry_bytes streams.now)) }
+    requires room { at + ARRAY_HEAD_LEN + ENTRY_SIZE * length streams.now ≤ length out.old }
+    ensures behind { result ≡ at + ARRAY_HEAD_LEN + ENTRY_SIZE * length streams.now }
+    ensures written { out.new ≡ with_bytes out.old at (entry_array (map entry_of_frame streams.now)) }
 {
-    let count = streams.len();
-    let len = 8 + 11 * count;
-    put_array_head(INDEX_ENTRIES, len as u16, count as u32, ENTRY_SIZE, out, at);
-    put_entries(streams, out, at + 12)
+    let first_at = put_array_head(INDEX_ENTRIES, streams.len() as u32, ENTRY_SIZE, out, at);
+    put_entries(streams, out, first_at)
 }
 
 fn put_entries(streams: &[u64], out: &mut [u8], at: usize) -> usize
-    requires room { at + 11 * length streams.now ≤ length out.old }
-    ensures behind { result ≡ at + 11 * length streams.now }
-    ensures written { out.new ≡ with_bytes out.old at (flat_map entry_bytes streams.now) }
+    requires room { at + ENTRY_SIZE * length streams.now ≤ length out.old }
+    ensures behind { result ≡ at + ENTRY_SIZE * length streams.now }
+    ensures written { out.new ≡ with_bytes out.old at (flat_map frame_bytes streams.now) }
 {
     let mut end = at;
     'entries: for k in 0..streams.len() {
@@ -139,37 +149,41 @@ fn put_entries(streams: &[u64], out: &mut [u8], at: usize) -> usize
     end
 }
 
-/// Writes what stands before the entries of an array, 12 bytes.
-fn put_array_head(tag: u16, len: u16, count: u32, size: u32, out: &mut [u8], at: usize)
-    requires room { at + 12 ≤ length out.old }
-    ensures { out.new ≡ with_bytes out.old at (big_bytes 2 tag ++ big_bytes 2 len ++ big_bytes 4 count ++ big_bytes 4 size) }
+/// Writes what stands before the entries of an array, and answers the place behind it.
+fn put_array_head(tag: u16, count: u32, size: u32, out: &mut [u8], at: usize) -> usize
+    requires fits { BATCH_HEAD_LEN + size * count < 2 ^ 16 }
+    requires room { at + ARRAY_HEAD_LEN ≤ length out.old }
+    ensures behind { result ≡ at + ARRAY_HEAD_LEN }
+    ensures written { out.new ≡ with_bytes out.old at
+        (big_bytes 2 tag ++ big_bytes 2 (BATCH_HEAD_LEN + size * count) ++ big_bytes 4 count ++ big_bytes 4 size) }
 {
     put_u16(out, at, tag);
-    put_u16(out, at + 2, len);
-    put_u32(out, at + 4, count);
-    put_u32(out, at + 8, size);
+    put_u16(out, at + 2, (BATCH_HEAD_LEN as u32 + size * count) as u16);
+    put_u32(out, at + ITEM_HEAD_LEN, count);
+    put_u32(out, at + ITEM_HEAD_LEN + 4, size);
+    at + ARRAY_HEAD_LEN
 }
 
 /// Writes an entry, and answers the place behind it.
 fn put_entry(stream: u64, out: &mut [u8], at: usize) -> usize
-    requires room { at + 11 ≤ length out.old }
-    ensures behind { result ≡ at + 11 }
-    ensures written { out.new ≡ with_bytes out.old at (entry_bytes stream) }
+    requires room { at + ENTRY_SIZE ≤ length out.old }
+    ensures behind { result ≡ at + ENTRY_SIZE }
+    ensures written { out.new ≡ with_bytes out.old at (frame_bytes stream) }
 {
     // The temporal offset and the key frame offset, a byte each.
     put_u16(out, at, 0);
     put_u8(out, at + 2, RANDOM_ACCESS);
     put_u64(out, at + 3, stream);
-    at + 11
+    at + ENTRY_SIZE as usize
 }
 
 /// Writes the item behind the arrays, and answers the place behind it.
 fn put_closing(out: &mut [u8], at: usize) -> usize
-    requires room { at + 5 ≤ length out.old }
-    ensures behind { result ≡ at + 5 }
+    requires room { at + CLOSING_LEN ≤ length out.old }
+    ensures behind { result ≡ at + CLOSING_LEN }
     ensures written { out.new ≡ with_bytes out.old at (items_bytes closing_items) }
 {
-    put_items(&[item(POS_TABLE_COUNT, Value::Byte(0))], out, at)
+    put_items(&[Item::new(POS_TABLE_COUNT, Value::Byte(0))], out, at)
 }
 
 #[cfg(test)]
@@ -219,6 +233,11 @@ mod tests {
         let count = put_segment(&small(&rt), &IDS, 0, &[0, 74, 148], &mut out);
         assert_eq!(rt; count, 173, "bytes of the segment");
         assert_eq!(rt; segment_len(3), 173, "bytes of three entries");
+        assert_eq!(rt;
+            (SEGMENT_LEN, MAX_ENTRIES),
+            (140, 5957),
+            "bytes without entries, most entries"
+        );
         assert_eq!(rt; out, want, "the segment, and the bytes behind it");
     }
 

@@ -17,10 +17,6 @@ pub const INDEX_ENTRIES: u16 = 0x3f0a;
 /// Pos Table Count: entries of the table of positions.
 pub const POS_TABLE_COUNT: u16 = 0x3f0e;
 
-/// The number of the stream of index tables (our own).
-pub const INDEX_STREAM: u32 = 2;
-/// The number of the essence stream (our own).
-pub const ESSENCE_STREAM: u32 = 1;
 /// Flags of an entry: the frame is coded without others, and can be decoded first.
 pub const RANDOM_ACCESS: u8 = 0x80;
 /// Bytes of a delta entry.

@@ -2,13 +2,14 @@
 use Rattle.std.proofs.Common.{◌≡◌, ℕ, ◌+◌, ◌≤◌, List, [], ◌∷◌, ◌++◌, length, refl, sym, ap, ◌∙◌, subst, arith, append-nil, length-append}
 use Rattle.std.specs.List.{flat_map}
 use Rattle.rec_bytes.specs.Places.{with_bytes}
-use Rattle.rec_bytes.specs.Laws.{with_bytes-more}
-use Rattle.local_sets.specs.Laws.{length-local_set}
+use Rattle.rec_bytes.specs.laws.Places.{with_bytes-more}
+use Rattle.local_sets.specs.laws.Lengths.{length-local_set}
 use Rattle.local_sets.specs.Sets.{items_bytes}
 use Rattle.local_sets.specs.declared.set.Item.{Item}
-use Rattle.mxf_metadata.specs.Lengths.{joined_bytes}
-use Rattle.mxf_metadata.specs.Metadata.{Set, set_bytes, set_key, metadata_set}
-use Rattle.mxf_metadata.specs.Writing.{Written}
+use Rattle.mxf_metadata.specs.laws.Lengths.{joined_bytes}
+use Rattle.mxf_names.specs.Keys.{set_key}
+use Rattle.mxf_metadata.specs.Metadata.{Set, set_bytes, metadata_set}
+use Rattle.mxf_metadata.specs.inner.Writing.{Written}
 
 -- sets behind sets
 pub joined : (old mid new : List ℕ) (at end next : ℕ) (xs ys : List Set) → end ≤ length old → Written old at xs end mid → Written mid end ys next new → Written old at (xs ++ ys) next new

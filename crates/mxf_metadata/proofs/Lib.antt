@@ -1,4 +1,6 @@
+pub mod DurationLemmas
 pub mod Joins
+pub mod LinkLemmas
 pub mod LinkedSets
 pub mod ListedLemmas
 pub mod ListedSets

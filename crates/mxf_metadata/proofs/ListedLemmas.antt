@@ -1,9 +1,10 @@
 -- A test that the table of tags has an item, which computes.
-use Rattle.std.proofs.Common.{◌≡◌, ℕ, suc, ◌==◌, Bool, true, false, List, [], ◌∷◌, ◌||◌, ◌&&◌, Some, None, refl, sym, ap, arith, inl, inr, ◌⊎◌, subst}
+use Rattle.std.proofs.Common.{◌≡◌, ℕ, suc, ◌==◌, Bool, true, false, List, [], ◌∷◌, map, ◌||◌, ◌&&◌, Some, None, refl, sym, ap, arith, inl, inr, ◌⊎◌, subst}
 use Rattle.std.proofs.lemmas.Bool.{eqb-true}
 use Rattle.std.specs.List.{AllByRecursion, Contains}
 use Rattle.local_sets.specs.Values.{value_bytes}
-use Rattle.local_sets.specs.Laws.{IsSized, length-value_bytes}
+use Rattle.local_sets.specs.laws.Lengths.{IsSized, length-value_bytes}
+use Rattle.local_sets.specs.Sets.{raw}
 use Rattle.local_sets.specs.declared.set.Item.{Item}
 use Rattle.local_sets.specs.declared.value.Value.{Value}
 use Rattle.local_sets.specs.declared.value.Value.TheVariants.{Byte, Short, Word, Long, Ratio, Duration, Label, Umid, EmptyBatch, BatchOfOne, BatchOfTwo, Text}
@@ -68,7 +69,7 @@ pick true false c h = inr h
 pick false b c h = inr h
 
 -- two tests hold
-two : (a b : Bool) → (a && b) ≡ true → (a ≡ true) × (b ≡ true)
+pub two : (a b : Bool) → (a && b) ≡ true → (a ≡ true) × (b ≡ true)
 two true b h = (refl, h)
 two false b h = cc
 
@@ -100,7 +101,7 @@ same_is Letters Batch h = cc
 same_is Letters Letters h = refl
 
 -- an item that the table has is listed
-listed : (item : Item) → has_item item TAGS ≡ true → IsSized item.value → IsListed item
+listed : (item : Item) → has_item item TAGS ≡ true → IsSized item.value → IsListed (raw item)
 listed item h s =
     let entry = found item TAGS h in
     record {
@@ -111,7 +112,7 @@ listed item h s =
     }
 
 -- so are all items
-pub all_listed : (items : List Item) → has_items items TAGS ≡ true → AllByRecursion (λ item. IsSized item.value) items → AllByRecursion IsListed items
+pub all_listed : (items : List Item) → has_items items TAGS ≡ true → AllByRecursion (λ item. IsSized item.value) items → AllByRecursion IsListed (map raw items)
 all_listed [] h s = tt
 all_listed (item ∷ items) h s =
     let both = two (has_item item TAGS) (has_items items TAGS) h in

@@ -4,10 +4,11 @@ use Rattle.std.specs.List.{flat_map}
 use Rattle.byteorder.specs.Endian.{big_bytes}
 use Rattle.klv.specs.Items.{klv_head}
 use Rattle.rec_bytes.specs.Places.{with_bytes}
-use Rattle.rec_bytes.specs.Laws.{with_bytes-more}
-use Rattle.mxf_metadata.specs.Primer.{primer, primer_value, primer_entry}
+use Rattle.rec_bytes.specs.laws.Places.{with_bytes-more}
+use Rattle.mxf_metadata.specs.inner.Entries.{tag_bytes}
+use Rattle.mxf_metadata.specs.Primer.{primer, primer_value}
 use Rattle.mxf_metadata.specs.declared.tags.TheConstants.{TAGS}
-use Rattle.mxf_metadata.specs.declared.labels.TheConstants.{PRIMER_KEY}
+use Rattle.mxf_names.specs.declared.keys.TheConstants.{PRIMER_KEY}
 
 -- four writes one behind the other, from the front on
 pub four : (old first second third fourth a b c d : List ℕ) → length a ≡ 20 → length b ≡ 4 → length c ≡ 4 → 28 + length d ≤ length old → first ≡ with_bytes old 0 a → second ≡ with_bytes first 20 b → third ≡ with_bytes second 24 c → fourth ≡ with_bytes third 28 d → fourth ≡ with_bytes old 0 (a ++ ((b ++ c) ++ d))
@@ -20,10 +21,10 @@ four old first second third fourth a b c d la lb lc room p q r s =
     whole ∙ ap (λ (bytes : List ℕ). with_bytes old 0 bytes) same
 
 -- the parts are the primer
-pub parts : klv_head PRIMER_KEY 3 908 ++ ((big_bytes 4 50 ++ big_bytes 4 18) ++ flat_map primer_entry TAGS) ≡ primer
+pub parts : klv_head PRIMER_KEY 3 908 ++ ((big_bytes 4 50 ++ big_bytes 4 18) ++ flat_map tag_bytes TAGS) ≡ primer
 unfolding primer primer_value
 parts = refl
 
 -- the entries have 900 bytes
-pub length_entries : length (flat_map primer_entry TAGS) ≡ 900
+pub length_entries : length (flat_map tag_bytes TAGS) ≡ 900
 length_entries = refl

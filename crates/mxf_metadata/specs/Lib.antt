@@ -1,12 +1,12 @@
-pub mod Identifiers
-pub mod Laws
-pub mod Lengths
+pub mod Durations
 pub mod Links
 pub mod Listed
 pub mod Metadata
+pub mod Nodes
 pub mod Pictures
 pub mod Primer
+pub mod RawSets
 pub mod Sets
-pub mod Sizes
 pub mod Tags
-pub mod Writing
+pub mod inner
+pub mod laws

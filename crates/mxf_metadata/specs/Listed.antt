@@ -2,9 +2,8 @@
 use Rattle.std.specs.Prelude.{◌≡◌, ℕ, ◌+◌, ◌*◌, List, ◌++◌, length, take}
 use Rattle.std.specs.List.{Contains, AllByRecursion}
 use Rattle.byteorder.specs.Endian.{big_bytes}
-use Rattle.local_sets.specs.Values.{value_bytes}
-use Rattle.local_sets.specs.declared.set.Item.{Item}
-use Rattle.mxf_metadata.specs.Metadata.{Set}
+use Rattle.local_sets.specs.Sets.{RawItem}
+use Rattle.mxf_metadata.specs.RawSets.{RawSet}
 use Rattle.mxf_metadata.specs.declared.tags.Tag.{Tag}
 use Rattle.mxf_metadata.specs.declared.tags.Size.{Size}
 use Rattle.mxf_metadata.specs.declared.tags.Size.TheVariants.{Fixed, Batch, Letters}
@@ -17,12 +16,12 @@ HasSize Batch bytes = (count : ℕ) × (length bytes ≡ 8 + 16 * count) × (tak
 HasSize Letters bytes = (letters : ℕ) × (length bytes ≡ 2 * letters)
 
 -- the table has the item's tag, and the value has the size that it says
-pub record IsListed (item : Item) : Type 0 where
+pub record IsListed (item : RawItem) : Type 0 where
   pub tag : Tag
   pub among : Contains TAGS tag
   pub same : tag.tag ≡ item.tag
-  pub sized : HasSize tag.size (value_bytes item.value)
+  pub sized : HasSize tag.size item.value
 
 -- each item of each set is listed
-abbrev pub AreListed : List Set → Type 0
+abbrev pub AreListed : List RawSet → Type 0
 AreListed sets = AllByRecursion (λ set. AllByRecursion IsListed set.items) sets

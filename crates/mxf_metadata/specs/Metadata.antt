@@ -1,26 +1,31 @@
 -- The metadata of a take (SMPTE ST 377-1). docs/FORMATS.md, "Metadata".
-use Rattle.std.specs.Prelude.{ℕ, ◌+◌, List, [], ◌∷◌, ◌++◌, replicate, Option}
+use Rattle.std.specs.Prelude.{ℕ, ◌+◌, List, [], ◌∷◌, ◌++◌, map, Option}
 use Rattle.std.specs.List.{flat_map}
 use Rattle.rec_bytes.specs.Configuration.{Fields}
-use Rattle.local_sets.specs.Sets.{local_set}
+use Rattle.local_sets.specs.Sets.{local_set, raw}
 use Rattle.local_sets.specs.declared.set.Item.{Item}
-use Rattle.mxf_metadata.specs.Identifiers.{umid}
+use Rattle.mxf_names.specs.Identifiers.{umid}
+use Rattle.mxf_names.specs.Keys.{set_key}
 use Rattle.mxf_metadata.specs.Primer.{primer}
-use Rattle.mxf_metadata.specs.Sets.{preface, identification, content_storage, essence_container, material_package, file_package, track, sequence, timecode, source_clip, descriptor}
-use Rattle.mxf_metadata.specs.declared.ids.Ids.{Ids}
-use Rattle.mxf_metadata.specs.declared.labels.TheConstants.{PREFACE_SET, IDENTIFICATION_SET, STORAGE_SET, CONTAINER_SET, MATERIAL_SET, FILE_SET, TRACK_SET, SEQUENCE_SET, TIMECODE_SET, CLIP_SET, DESCRIPTOR_SET, PICTURE_KIND, TIMECODE_KIND, PICTURE_TRACK_NUMBER}
+use Rattle.mxf_metadata.specs.RawSets.{RawSet}
+use Rattle.mxf_metadata.specs.Sets.{preface, identification, content_storage, essence_container, material_package, file_package}
+use Rattle.mxf_metadata.specs.Sets.{track, sequence, timecode, source_clip, descriptor}
+use Rattle.mxf_names.specs.declared.ids.Ids.{Ids}
+use Rattle.mxf_metadata.specs.declared.labels.TheConstants.{PREFACE_SET, IDENTIFICATION_SET, STORAGE_SET, CONTAINER_SET, MATERIAL_SET, FILE_SET}
+use Rattle.mxf_metadata.specs.declared.labels.TheConstants.{TRACK_SET, SEQUENCE_SET, TIMECODE_SET, CLIP_SET, DESCRIPTOR_SET}
+use Rattle.mxf_metadata.specs.declared.labels.TheConstants.{PICTURE_KIND, TIMECODE_KIND, TIMECODE_TRACK_ID, PICTURE_TRACK_ID, NO_SOURCE}
+use Rattle.mxf_names.specs.declared.keys.TheConstants.{PICTURE_TRACK_NUMBER}
 
--- a set of the metadata
+-- a set of ours
 pub record Set : Type 0 where
   pub kind : ℕ
   pub items : List Item
 
--- the key of the sets of a kind
-abbrev pub set_key : ℕ → List ℕ
-set_key kind =
-    0x06 ∷ 0x0e ∷ 0x2b ∷ 0x34 ∷ 0x02 ∷ 0x53 ∷ 0x01 ∷ 0x01 ∷ 0x0d ∷ 0x01 ∷ 0x01 ∷ 0x01 ∷ 0x01 ∷ 0x01 ∷ kind ∷ 0x00 ∷ []
+-- as it stands in the file
+abbrev pub raw_set : Set → RawSet
+raw_set set = record { kind = set.kind; items = map raw set.items }
 
--- a set as it is spelled
+-- as it is spelled
 abbrev pub set_bytes : Set → List ℕ
 set_bytes set = local_set (set_key set.kind) set.items
 
@@ -31,7 +36,7 @@ metadata_set kind items = record { kind = kind; items = items }
 -- a track of timecode: the track, its sequence and its component in three sets from a number on
 unfoldable pub timecode_track : Fields → Ids → Option ℕ → ℕ → List Set
 timecode_track cfg ids frames number =
-    metadata_set TRACK_SET (track cfg ids number 1 0)
+    metadata_set TRACK_SET (track cfg ids number TIMECODE_TRACK_ID 0)
     ∷ metadata_set SEQUENCE_SET (sequence ids (number + 1) TIMECODE_KIND frames)
     ∷ metadata_set TIMECODE_SET (timecode cfg ids (number + 2) frames)
     ∷ []
@@ -39,7 +44,7 @@ timecode_track cfg ids frames number =
 -- a track of pictures: the same with a source clip of a package's track
 unfoldable pub picture_track : Fields → Ids → Option ℕ → ℕ → ℕ → List ℕ → ℕ → List Set
 picture_track cfg ids frames number track_number source track_id =
-    metadata_set TRACK_SET (track cfg ids number 2 track_number)
+    metadata_set TRACK_SET (track cfg ids number PICTURE_TRACK_ID track_number)
     ∷ metadata_set SEQUENCE_SET (sequence ids (number + 1) PICTURE_KIND frames)
     ∷ metadata_set CLIP_SET (source_clip ids (number + 2) frames source track_id)
     ∷ []
@@ -59,19 +64,23 @@ unfoldable pub material_sets : Fields → Ids → Option ℕ → List Set
 material_sets cfg ids frames =
     storage_sets ids
     ++ timecode_track cfg ids frames 6
-    ++ picture_track cfg ids frames 9 0 (umid ids.file) 2
+    ++ picture_track cfg ids frames 9 0 (umid ids.file) PICTURE_TRACK_ID
 
 -- sets 12 to 19: the file package, whose clip has no source
 unfoldable pub file_sets : Fields → Ids → Option ℕ → List Set
 file_sets cfg ids frames =
     (metadata_set FILE_SET (file_package ids) ∷ [])
     ++ timecode_track cfg ids frames 13
-    ++ picture_track cfg ids frames 16 PICTURE_TRACK_NUMBER (replicate 32 0) 0
+    ++ picture_track cfg ids frames 16 PICTURE_TRACK_NUMBER NO_SOURCE 0
     ++ (metadata_set DESCRIPTOR_SET (descriptor cfg ids frames) ∷ [])
 
 -- the 19 sets
 unfoldable pub sets : Fields → Ids → Option ℕ → List Set
 sets cfg ids frames = material_sets cfg ids frames ++ file_sets cfg ids frames
+
+-- as they stand in the file
+abbrev pub raw_sets : Fields → Ids → Option ℕ → List RawSet
+raw_sets cfg ids frames = map raw_set (sets cfg ids frames)
 
 -- the primer and the sets
 unfoldable pub metadata : Fields → Ids → Option ℕ → List ℕ

@@ -1,20 +1,27 @@
 -- The sets of the structural metadata (SMPTE ST 377-1). docs/FORMATS.md, "Metadata".
 use Rattle.std.specs.Prelude.{ℕ, ◌+◌, ◌-◌, List, [], ◌∷◌, ◌++◌, length, replicate, Option, codes}
 use Rattle.rec_bytes.specs.Configuration.{Fields}
+use Rattle.local_sets.specs.Sets.{item}
 use Rattle.local_sets.specs.declared.set.Item.{Item}
 use Rattle.local_sets.specs.declared.value.Value.{Value}
 use Rattle.local_sets.specs.declared.value.Value.TheVariants.{Byte, Short, Word, Long, Ratio, Duration, Label, Umid, EmptyBatch, BatchOfOne, BatchOfTwo, Text}
-use Rattle.mxf_metadata.specs.Identifiers.{set_id, umid}
-use Rattle.mxf_metadata.specs.Pictures.{edit_rate, timecode_base, frame_layout, stored_height, aspect_ratio, coding_label}
-use Rattle.mxf_metadata.specs.declared.ids.Ids.{Ids}
-use Rattle.mxf_metadata.specs.declared.tags.TheConstants.{INSTANCE_ID, LAST_MODIFIED, VERSION, OBJECT_MODEL_VERSION, CONTENT_STORAGE, IDENTIFICATIONS, OPERATIONAL_PATTERN, ESSENCE_CONTAINERS, DM_SCHEMES, THIS_GENERATION_ID, COMPANY_NAME, PRODUCT_NAME, VERSION_STRING, PRODUCT_ID, MODIFICATION_DATE, PACKAGES, ESSENCE_CONTAINER_DATA, LINKED_PACKAGE_ID, INDEX_SID, BODY_SID, PACKAGE_ID, PACKAGE_MODIFIED, PACKAGE_CREATED, TRACKS, TRACK_ID, TRACK_NUMBER, EDIT_RATE, ORIGIN, SEQUENCE, DATA_DEFINITION, DURATION, STRUCTURAL_COMPONENTS, START_TIMECODE, ROUNDED_TIMECODE_BASE, DROP_FRAME, START_POSITION, SOURCE_PACKAGE_ID, SOURCE_TRACK_ID, DESCRIPTOR, LINKED_TRACK_ID, SAMPLE_RATE, CONTAINER_DURATION, ESSENCE_CONTAINER, PICTURE_ESSENCE_CODING, FRAME_LAYOUT, STORED_WIDTH, STORED_HEIGHT, ASPECT_RATIO, COMPONENT_DEPTH, HORIZONTAL_SUBSAMPLING}
-use Rattle.mxf_metadata.specs.declared.labels.TheConstants.{PICTURE_KIND, TIMECODE_KIND, PRODUCT}
-use Rattle.mxf_partitions.specs.declared.partition.TheConstants.{ESSENCE_CONTAINER_LABEL}
-use Rattle.mxf_partitions.specs.declared.partition.TheConstants as pack
-
--- an item with a tag
-abbrev pub item : ℕ → Value → Item
-item tag value = record { tag = tag; value = value }
+use Rattle.mxf_names.specs.Identifiers.{set_id, umid}
+use Rattle.mxf_names.specs.EditRates.{edit_rate}
+use Rattle.mxf_metadata.specs.Pictures.{timecode_base, frame_layout, stored_height, aspect_ratio, coding_label}
+use Rattle.mxf_names.specs.declared.ids.Ids.{Ids}
+use Rattle.mxf_names.specs.declared.streams.TheConstants.{ESSENCE_STREAM, INDEX_STREAM}
+use Rattle.mxf_names.specs.declared.tags.TheConstants.{INSTANCE_ID, INDEX_SID, BODY_SID}
+use Rattle.mxf_metadata.specs.declared.tags.TheConstants.{LAST_MODIFIED, VERSION, OBJECT_MODEL_VERSION, CONTENT_STORAGE, IDENTIFICATIONS}
+use Rattle.mxf_metadata.specs.declared.tags.TheConstants.{OPERATIONAL_PATTERN, ESSENCE_CONTAINERS, DM_SCHEMES, THIS_GENERATION_ID, COMPANY_NAME}
+use Rattle.mxf_metadata.specs.declared.tags.TheConstants.{PRODUCT_NAME, VERSION_STRING, PRODUCT_ID, MODIFICATION_DATE, PACKAGES}
+use Rattle.mxf_metadata.specs.declared.tags.TheConstants.{ESSENCE_CONTAINER_DATA, LINKED_PACKAGE_ID, PACKAGE_ID, PACKAGE_MODIFIED, PACKAGE_CREATED}
+use Rattle.mxf_metadata.specs.declared.tags.TheConstants.{TRACKS, TRACK_ID, TRACK_NUMBER, EDIT_RATE, ORIGIN, SEQUENCE, DATA_DEFINITION, DURATION}
+use Rattle.mxf_metadata.specs.declared.tags.TheConstants.{STRUCTURAL_COMPONENTS, START_TIMECODE, ROUNDED_TIMECODE_BASE, DROP_FRAME, START_POSITION}
+use Rattle.mxf_metadata.specs.declared.tags.TheConstants.{SOURCE_PACKAGE_ID, SOURCE_TRACK_ID, DESCRIPTOR, LINKED_TRACK_ID, SAMPLE_RATE}
+use Rattle.mxf_metadata.specs.declared.tags.TheConstants.{CONTAINER_DURATION, ESSENCE_CONTAINER, PICTURE_ESSENCE_CODING, FRAME_LAYOUT, STORED_WIDTH}
+use Rattle.mxf_metadata.specs.declared.tags.TheConstants.{STORED_HEIGHT, ASPECT_RATIO, COMPONENT_DEPTH, HORIZONTAL_SUBSAMPLING}
+use Rattle.mxf_metadata.specs.declared.labels.TheConstants.{PICTURE_KIND, TIMECODE_KIND, PRODUCT, PICTURE_TRACK_ID}
+use Rattle.mxf_names.specs.declared.labels.TheConstants.{ESSENCE_CONTAINER_LABEL, OPERATIONAL_PATTERN_1A}
 
 -- the identifier that each set begins with
 abbrev pub own_id : Ids → ℕ → Item
@@ -41,7 +48,7 @@ preface ids =
     ∷ item OBJECT_MODEL_VERSION (Word 1)
     ∷ item CONTENT_STORAGE (Label (set_id ids 3))
     ∷ item IDENTIFICATIONS (BatchOfOne (set_id ids 2))
-    ∷ item OPERATIONAL_PATTERN (Label pack.OPERATIONAL_PATTERN)
+    ∷ item OPERATIONAL_PATTERN (Label OPERATIONAL_PATTERN_1A)
     ∷ item ESSENCE_CONTAINERS (BatchOfOne ESSENCE_CONTAINER_LABEL)
     ∷ item DM_SCHEMES EmptyBatch
     ∷ []
@@ -66,13 +73,13 @@ content_storage ids =
     ∷ item ESSENCE_CONTAINER_DATA (BatchOfOne (set_id ids 4))
     ∷ []
 
--- set 4: the file package's essence is stream 1, and its index stream 2
+-- set 4: the streams of the file package's essence and of its index
 unfoldable pub essence_container : Ids → List Item
 essence_container ids =
     own_id ids 4
     ∷ item LINKED_PACKAGE_ID (Umid (umid ids.file))
-    ∷ item INDEX_SID (Word 2)
-    ∷ item BODY_SID (Word 1)
+    ∷ item INDEX_SID (Word INDEX_STREAM)
+    ∷ item BODY_SID (Word ESSENCE_STREAM)
     ∷ []
 
 -- set 5: the material package, with tracks in sets 6 and 9
@@ -138,11 +145,11 @@ source_clip ids number frames source track_id =
     ∷ item SOURCE_TRACK_ID (Word track_id)
     ∷ []
 
--- set 19: how the pictures of track 2 are stored
+-- set 19: how the pictures are stored
 unfoldable pub descriptor : Fields → Ids → Option ℕ → List Item
 descriptor cfg ids frames =
     own_id ids 19
-    ∷ item LINKED_TRACK_ID (Word 2)
+    ∷ item LINKED_TRACK_ID (Word PICTURE_TRACK_ID)
     ∷ item SAMPLE_RATE (ratio (edit_rate cfg.rate))
     ∷ item CONTAINER_DURATION (Duration frames)
     ∷ item ESSENCE_CONTAINER (Label ESSENCE_CONTAINER_LABEL)

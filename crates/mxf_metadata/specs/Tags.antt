@@ -1,7 +1,9 @@
 -- Which tags the sets use, and in which order (SMPTE ST 377-1). docs/FORMATS.md, "Metadata".
-use Rattle.std.specs.Prelude.{ℕ, ◌==◌, Bool, true, false, List, [], ◌∷◌, map, if◌then◌else◌}
-use Rattle.local_sets.specs.declared.set.Item.{Item}
-use Rattle.mxf_metadata.specs.Metadata.{Set}
+use Rattle.std.specs.Prelude.{◌≡◌, ℕ, ◌==◌, ◌&&◌, not, Bool, true, false, List, [], ◌∷◌, map, if◌then◌else◌}
+use Rattle.std.specs.List.{AllByRecursion}
+use Rattle.local_sets.specs.Sets.{RawItem}
+use Rattle.mxf_metadata.specs.RawSets.{RawSet}
+use Rattle.mxf_names.specs.declared.tags.TheConstants.{INSTANCE_ID}
 
 -- a number is among others
 unfoldable pub is_among : ℕ → List ℕ → Bool
@@ -20,5 +22,14 @@ abbrev pub firsts : List ℕ → List ℕ
 firsts numbers = firsts_behind [] numbers
 
 -- the tags of a set's items
-abbrev pub tags_of : Set → List ℕ
-tags_of set = map (λ (item : Item). item.tag) set.items
+abbrev pub tags_of : RawSet → List ℕ
+tags_of set = map (λ (item : RawItem). item.tag) set.items
+
+-- of a set's tags, the first is that of its instance identifier, and no other is
+abbrev pub begins_with_id : List ℕ → Bool
+begins_with_id [] = false
+begins_with_id (tag ∷ tags) = tag == INSTANCE_ID && not (is_among INSTANCE_ID tags)
+
+-- each set begins with its instance identifier, and has no other
+abbrev pub AreIdentified : List RawSet → Type 0
+AreIdentified sets = AllByRecursion (λ set. begins_with_id (tags_of set) ≡ true) sets

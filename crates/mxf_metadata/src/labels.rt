@@ -1,14 +1,5 @@
-//! Labels and numbers that the metadata fixes (SMPTE ST 377-1, SMPTE RDD 44, and own choices).
+//! Labels, kinds and numbers of tracks that the metadata alone fixes (SMPTE ST 377-1, and own choices).
 
-/// Bytes of the whole metadata.
-pub const METADATA: usize = 3165;
-/// Bytes of the primer pack among them.
-pub const PRIMER: usize = 928;
-
-/// The key of the primer pack.
-pub const PRIMER_KEY: [u8; 16] = [
-    0x06, 0x0e, 0x2b, 0x34, 0x02, 0x05, 0x01, 0x01, 0x0d, 0x01, 0x02, 0x01, 0x01, 0x05, 0x01, 0x00,
-];
 /// The data definition of picture tracks.
 pub const PICTURE_KIND: [u8; 16] = [
     0x06, 0x0e, 0x2b, 0x34, 0x04, 0x01, 0x01, 0x01, 0x01, 0x03, 0x02, 0x02, 0x01, 0x00, 0x00, 0x00,
@@ -17,15 +8,14 @@ pub const PICTURE_KIND: [u8; 16] = [
 pub const TIMECODE_KIND: [u8; 16] = [
     0x06, 0x0e, 0x2b, 0x34, 0x04, 0x01, 0x01, 0x01, 0x01, 0x03, 0x02, 0x01, 0x01, 0x00, 0x00, 0x00,
 ];
-/// How a unique material identifier begins; 16 bytes of its own follow (SMPTE ST 330).
-pub const UMID_HEAD: [u8; 16] = [
-    0x06, 0x0a, 0x2b, 0x34, 0x01, 0x01, 0x01, 0x05, 0x01, 0x01, 0x0f, 0x20, 0x13, 0x00, 0x00, 0x00,
-];
+/// The track of timecode in each package.
+pub const TIMECODE_TRACK_ID: u32 = 1;
+/// The track of pictures in each package.
+pub const PICTURE_TRACK_ID: u32 = 2;
+/// What a clip without a source names.
+pub const NO_SOURCE: [u8; 32] = [0; 32];
 /// The identifier of the product that writes these files.
 pub const PRODUCT: [u8; 16] = [0x36; 16];
-/// The track number of a picture track in a file package: the last four bytes of its elements' key.
-pub const PICTURE_TRACK_NUMBER: u32 = 0x1501_1701;
-
 /// The kind of a preface.
 pub const PREFACE_SET: u8 = 0x2f;
 /// The kind of an identification.

@@ -1,5 +1,7 @@
 //! The local tags of the metadata (SMPTE ST 377-1) and the sizes of their values.
 
+use mxf_names::{BODY_SID, INDEX_SID, INSTANCE_ID};
+
 /// How many bytes a value has.
 #[derive(Clone, Copy, Debug, PartialEq, Eq)]
 pub enum Size {
@@ -20,8 +22,6 @@ pub struct Tag {
     pub size: Size,
 }
 
-/// Instance UID: the identifier of a set.
-pub const INSTANCE_ID: u16 = 0x3c0a;
 /// Last Modified Date of the preface.
 pub const LAST_MODIFIED: u16 = 0x3b02;
 /// Version of the format.
@@ -56,10 +56,6 @@ pub const PACKAGES: u16 = 0x1901;
 pub const ESSENCE_CONTAINER_DATA: u16 = 0x1902;
 /// Linked Package UID: UMID of the package whose essence is described.
 pub const LINKED_PACKAGE_ID: u16 = 0x2701;
-/// Index SID: stream that holds index table segments.
-pub const INDEX_SID: u16 = 0x3f06;
-/// Body SID: stream that holds essence.
-pub const BODY_SID: u16 = 0x3f07;
 /// Package UID: UMID of a package.
 pub const PACKAGE_ID: u16 = 0x4401;
 /// Package Modified Date.
@@ -121,8 +117,11 @@ pub const COMPONENT_DEPTH: u16 = 0x3301;
 /// Horizontal Subsampling.
 pub const HORIZONTAL_SUBSAMPLING: u16 = 0x3302;
 
+/// How many tags the metadata has.
+pub const TAG_COUNT: usize = 50;
+
 /// The tags of the metadata, in the order of their first use.
-pub const TAGS: [Tag; 50] = [
+pub const TAGS: [Tag; TAG_COUNT] = [
     Tag {
         tag: INSTANCE_ID,
         size: Size::Fixed(16),

@@ -1,6 +1,7 @@
 //! Rows that another program worked out (Python's uuid, struct and hashlib, from docs/FORMATS.md, "Metadata").
 
-use crate::{Ids, METADATA, edit_rate, put_metadata};
+use crate::{METADATA, Size, TAGS, put_metadata};
+use mxf_names::Ids;
 use rec_bytes::{Config, read_config};
 use sha1::Sha1;
 use std::process::Abort;
@@ -33,35 +34,16 @@ fn config(rt: &impl Abort, bytes: &[u8; 64]) -> Config {
     read_config(bytes).expect(rt, "a configuration")
 }
 
-#[test]
-fn the_identifiers_of_a_take_are_named_in_its_namespace(rt: HostRuntime) {
-    let ids = Ids::new(&config(&rt, &SMALL));
-    assert_eq!(rt; ids.take, [0; 16], "the take's own");
-    assert_eq!(rt;
-        ids.file,
-        [
-            0xe1, 0x0b, 0x9e, 0x3f, 0x02, 0xd3, 0x5f, 0x27, 0xa5, 0xd7, 0x54, 0xd2, 0x3e, 0x6c,
-            0xcd, 0xa2
-        ],
-        "the file package's"
-    );
-    assert_eq!(rt;
-        ids.sets,
-        [0x53, 0xfb, 0xff, 0xa0, 0x4f, 0x31, 0x55, 0x00],
-        "of the sets"
-    );
-    assert_eq!(rt;
-        ids.index,
-        [0xbd, 0xd9, 0x80, 0xef, 0xe2, 0xcd, 0x5d, 0xf6],
-        "of the segments"
-    );
+/// The bytes from a place on.
+fn at(out: &[u8; METADATA], place: usize) -> &[u8] {
+    &out[place.min(METADATA)..]
 }
 
-fn front(out: &[u8; 3170]) -> &[u8] {
+fn front(out: &[u8; METADATA + 5]) -> &[u8] {
     &out[..METADATA]
 }
 
-fn behind(out: &[u8; 3170]) -> &[u8] {
+fn behind(out: &[u8; METADATA + 5]) -> &[u8] {
     &out[METADATA..]
 }
 
@@ -98,7 +80,7 @@ fn all_bytes_are_those_of_another_program(rt: HostRuntime) {
     ];
     for (name, bytes, frames, digest) in cases {
         let cfg = config(&rt, bytes);
-        let mut out = [0xee; 3170];
+        let mut out = [0xee; METADATA + 5];
         let end = put_metadata(&cfg, &Ids::new(&cfg), frames, &mut out);
         assert_eq!(rt; end, METADATA, "end of {name}");
         assert_eq!(rt; Sha1::digest(front(&out)), digest, "SHA-1 of {name}");
@@ -109,7 +91,7 @@ fn all_bytes_are_those_of_another_program(rt: HostRuntime) {
 #[test]
 fn items_stand_where_the_sets_before_them_end(rt: HostRuntime) {
     let cfg = config(&rt, &FIELDS);
-    let mut out = [0; 3165];
+    let mut out = [0; METADATA];
     put_metadata(&cfg, &Ids::new(&cfg), Some(3), &mut out);
     let cases: [(&str, usize, &[u8]); 15] = [
         (
@@ -165,8 +147,110 @@ fn items_stand_where_the_sets_before_them_end(rt: HostRuntime) {
         ("rows of a field", 3129, &[0x32, 2, 0, 4, 0, 0, 0, 144]),
         ("aspect", 3137, &[0x32, 0x0e, 0, 8, 0, 0, 0, 16, 0, 0, 0, 9]),
     ];
-    for (name, at, bytes) in cases {
-        assert!(rt; out[at.min(METADATA)..].starts_with(bytes), "{name}");
+    for (name, place, bytes) in cases {
+        assert!(rt; at(&out, place).starts_with(bytes), "{name}");
     }
-    assert_eq!(rt; edit_rate(7), (60_000, 1001), "rate 7");
+}
+
+#[test]
+fn each_rate_is_written_as_its_standard_says(rt: HostRuntime) {
+    // SMPTE RDD 36, frame_rate_code: numerator and denominator; the count of a second as SMPTE ST 12-1 rounds it.
+    let cases: [(u8, [u8; 8], u8); 8] = [
+        (1, [0, 0, 0x5d, 0xc0, 0, 0, 0x03, 0xe9], 24),
+        (2, [0, 0, 0, 24, 0, 0, 0, 1], 24),
+        (3, [0, 0, 0, 25, 0, 0, 0, 1], 25),
+        (4, [0, 0, 0x75, 0x30, 0, 0, 0x03, 0xe9], 30),
+        (5, [0, 0, 0, 30, 0, 0, 0, 1], 30),
+        (6, [0, 0, 0, 50, 0, 0, 0, 1], 50),
+        (7, [0, 0, 0xea, 0x60, 0, 0, 0x03, 0xe9], 60),
+        (8, [0, 0, 0, 60, 0, 0, 0, 1], 60),
+    ];
+    for (rate, edit_rate, base) in cases {
+        let mut bytes = SMALL;
+        bytes[5] = rate;
+        let cfg = config(&rt, &bytes);
+        let mut out = [0; METADATA];
+        put_metadata(&cfg, &Ids::new(&cfg), Some(3), &mut out);
+        // The tracks in sets 6, 9, 13 and 16, and the descriptor in set 19.
+        for place in [1654, 1949, 2441, 2736, 3056] {
+            assert!(rt;
+                at(&out, place).starts_with(&edit_rate),
+                "edit rate of {rate} at {place}"
+            );
+        }
+        // The timecodes in sets 8 and 15.
+        for place in [1882, 2669] {
+            assert!(rt;
+                at(&out, place).starts_with(&[0, base]),
+                "frames a second of {rate} at {place}"
+            );
+        }
+    }
+}
+
+#[test]
+fn each_aspect_is_written_as_its_standard_says(rt: HostRuntime) {
+    // SMPTE RDD 36, aspect_ratio_information: 2 and 3 are shapes of the picture; for others, samples are square.
+    let cases: [(u8, [u8; 8]); 4] = [
+        (0, [0, 0, 0x01, 0x40, 0, 0, 0, 0xb4]),
+        (1, [0, 0, 0x01, 0x40, 0, 0, 0, 0xb4]),
+        (2, [0, 0, 0, 4, 0, 0, 0, 3]),
+        (3, [0, 0, 0, 16, 0, 0, 0, 9]),
+    ];
+    for (aspect, ratio) in cases {
+        let mut bytes = OTHER;
+        bytes[6] = aspect;
+        let cfg = config(&rt, &bytes);
+        let mut out = [0; METADATA];
+        put_metadata(&cfg, &Ids::new(&cfg), None, &mut out);
+        assert!(rt; at(&out, 3141).starts_with(&ratio), "aspect {aspect}");
+    }
+}
+
+#[test]
+fn each_tag_has_its_size(rt: HostRuntime) {
+    let cases: [(Size, &[u16]); 8] = [
+        (Size::Fixed(1), &[0x1503, 0x320c]),
+        (Size::Fixed(2), &[0x3b05, 0x1502]),
+        (
+            Size::Fixed(4),
+            &[
+                0x3b07, 0x3f06, 0x3f07, 0x4801, 0x4804, 0x1102, 0x3006, 0x3203, 0x3202, 0x3301,
+                0x3302,
+            ],
+        ),
+        (
+            Size::Fixed(8),
+            &[
+                0x3b02, 0x3c06, 0x4404, 0x4405, 0x4b01, 0x4b02, 0x0202, 0x1501, 0x1201, 0x3001,
+                0x3002, 0x320e,
+            ],
+        ),
+        (
+            Size::Fixed(16),
+            &[
+                0x3c0a, 0x3b03, 0x3b09, 0x3c09, 0x3c05, 0x4803, 0x0201, 0x4701, 0x3004, 0x3201,
+            ],
+        ),
+        (Size::Fixed(32), &[0x2701, 0x4401, 0x1101]),
+        (
+            Size::Batch,
+            &[0x3b06, 0x3b0a, 0x3b0b, 0x1901, 0x1902, 0x4403, 0x1001],
+        ),
+        (Size::Letters, &[0x3c01, 0x3c02, 0x3c04]),
+    ];
+    for (size, tags) in cases {
+        for tag in tags {
+            assert_eq!(rt; size_of(*tag), Some(size), "size of {tag}");
+        }
+    }
+}
+
+fn size_of(tag: u16) -> Option<Size> {
+    for row in TAGS {
+        if row.tag == tag {
+            return Some(row.size);
+        }
+    }
+    None
 }

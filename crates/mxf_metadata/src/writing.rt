@@ -4,14 +4,17 @@ ghost use Rattle.std.specs.Prelude.{◌≡◌, ◌+◌, ◌^◌, ◌<◌, ◌≤
 ghost use Rattle.local_sets.specs.Sets.{items_bytes};
 ghost use Rattle.rec_bytes.specs.Places.{with_bytes};
 ghost use Rattle.rec_bytes.specs.Views.{view};
-ghost use Rattle.mxf_metadata.specs.Metadata.{set_key, metadata_set, storage_sets, material_sets, file_sets, timecode_track, picture_track, sets, metadata};
-ghost use Rattle.mxf_metadata.specs.Writing.{Written};
+ghost use Rattle.mxf_metadata.specs.Metadata.{metadata_set, storage_sets, material_sets, file_sets};
+ghost use Rattle.mxf_metadata.specs.Metadata.{timecode_track, picture_track, sets, metadata};
+ghost use Rattle.mxf_metadata.specs.inner.Writing.{Written};
 
-use crate::ids::{Ids, umid};
 use crate::labels::*;
+use crate::lengths::*;
 use crate::primer::put_primer;
 use crate::sets;
+use klv::SET_HEAD_LEN;
 use local_sets::{Item, put_set};
+use mxf_names::{Ids, PICTURE_TRACK_NUMBER, set_key, umid};
 use rec_bytes::Config;
 
 /// Writes the metadata of a take at the front, with durations where the number of frames is known, and answers
@@ -29,8 +32,8 @@ pub fn put_metadata(cfg: &Config, ids: &Ids, frames: Option<u64>, out: &mut [u8]
 /// Writes the 19 sets.
 #[tactic(auto, unfolding(crate::specs::Metadata::sets))]
 fn put_sets(cfg: &Config, ids: &Ids, frames: Option<u64>, out: &mut [u8], at: usize) -> usize
-    requires room { at + 2237 ≤ length out.old }
-    ensures end { result ≡ at + 2237 }
+    requires room { at + SETS ≤ length out.old }
+    ensures end { result ≡ at + SETS }
     ensures written { Written out.old at (sets (view cfg.now) ids.now frames) result out.new }
 {
     let file_at = put_material_sets(cfg, ids, frames, out, at);
@@ -45,19 +48,29 @@ fn put_material_sets(
     out: &mut [u8],
     at: usize,
 ) -> usize
-    requires room { at + 1289 ≤ length out.old }
-    ensures end { result ≡ at + 1289 }
+    requires room { at + MATERIAL_SETS ≤ length out.old }
+    ensures end { result ≡ at + MATERIAL_SETS }
     ensures written { Written out.old at (material_sets (view cfg.now) ids.now frames) result out.new }
 {
     let timecode_at = put_storage_sets(ids, out, at);
     let picture_at = put_timecode_track(cfg, ids, frames, 6, out, timecode_at);
-    put_picture_track(cfg, ids, frames, 9, 0, &umid(&ids.file), 2, out, picture_at)
+    put_picture_track(
+        cfg,
+        ids,
+        frames,
+        9,
+        0,
+        &umid(&ids.file),
+        PICTURE_TRACK_ID,
+        out,
+        picture_at,
+    )
 }
 
 /// Writes sets 12 to 19.
 fn put_file_sets(cfg: &Config, ids: &Ids, frames: Option<u64>, out: &mut [u8], at: usize) -> usize
-    requires room { at + 948 ≤ length out.old }
-    ensures end { result ≡ at + 948 }
+    requires room { at + FILE_SETS ≤ length out.old }
+    ensures end { result ≡ at + FILE_SETS }
     ensures written { Written out.old at (file_sets (view cfg.now) ids.now frames) result out.new }
 {
     let timecode_at = put_one(FILE_SET, &sets::file_package(ids), out, at);
@@ -68,7 +81,7 @@ fn put_file_sets(cfg: &Config, ids: &Ids, frames: Option<u64>, out: &mut [u8], a
         frames,
         16,
         PICTURE_TRACK_NUMBER,
-        &[0; 32],
+        &NO_SOURCE,
         0,
         out,
         picture_at,
@@ -83,8 +96,8 @@ fn put_file_sets(cfg: &Config, ids: &Ids, frames: Option<u64>, out: &mut [u8], a
 
 /// Writes sets 1 to 5.
 fn put_storage_sets(ids: &Ids, out: &mut [u8], at: usize) -> usize
-    requires room { at + 666 ≤ length out.old }
-    ensures end { result ≡ at + 666 }
+    requires room { at + STORAGE_SETS ≤ length out.old }
+    ensures end { result ≡ at + STORAGE_SETS }
     ensures written { Written out.old at (storage_sets ids.now) result out.new }
 {
     let second = put_one(PREFACE_SET, &sets::preface(ids), out, at);
@@ -103,12 +116,17 @@ fn put_timecode_track(
     out: &mut [u8],
     at: usize,
 ) -> usize
-    requires room { at + 295 ≤ length out.old }
+    requires room { at + TIMECODE_TRACK ≤ length out.old }
     requires small { number < 2 ^ 16 }
-    ensures end { result ≡ at + 295 }
+    ensures end { result ≡ at + TIMECODE_TRACK }
     ensures written { Written out.old at (timecode_track (view cfg.now) ids.now frames number) result out.new }
 {
-    let second = put_one(TRACK_SET, &sets::track(cfg, ids, number, 1, 0), out, at);
+    let second = put_one(
+        TRACK_SET,
+        &sets::track(cfg, ids, number, TIMECODE_TRACK_ID, 0),
+        out,
+        at,
+    );
     let third = put_one(
         SEQUENCE_SET,
         &sets::sequence(ids, number + 1, &TIMECODE_KIND, frames),
@@ -135,14 +153,14 @@ fn put_picture_track(
     out: &mut [u8],
     at: usize,
 ) -> usize
-    requires room { at + 328 ≤ length out.old }
+    requires room { at + PICTURE_TRACK ≤ length out.old }
     requires small { number < 2 ^ 16 }
-    ensures end { result ≡ at + 328 }
+    ensures end { result ≡ at + PICTURE_TRACK }
     ensures written { Written out.old at (picture_track (view cfg.now) ids.now frames number track_number source.now track_id) result out.new }
 {
     let second = put_one(
         TRACK_SET,
-        &sets::track(cfg, ids, number, 2, track_number),
+        &sets::track(cfg, ids, number, PICTURE_TRACK_ID, track_number),
         out,
         at,
     );
@@ -162,20 +180,10 @@ fn put_picture_track(
 
 /// Writes a set of a kind.
 fn put_one(kind: u8, items: &[Item], out: &mut [u8], at: usize) -> usize
-    requires room { at + 20 + length (items_bytes items.now) ≤ length out.old }
+    requires room { at + SET_HEAD_LEN + length (items_bytes items.now) ≤ length out.old }
     requires fits { length (items_bytes items.now) < 2 ^ 24 }
-    ensures end { result ≡ at + 20 + length (items_bytes items.now) }
+    ensures end { result ≡ at + SET_HEAD_LEN + length (items_bytes items.now) }
     ensures written { Written out.old at (metadata_set kind items.now ∷ []) result out.new }
 {
     put_set(&set_key(kind), items, out, at)
-}
-
-/// The key of the sets of a kind.
-fn set_key(kind: u8) -> [u8; 16]
-    ensures { result ≡ set_key kind }
-{
-    [
-        0x06, 0x0e, 0x2b, 0x34, 0x02, 0x53, 0x01, 0x01, 0x0d, 0x01, 0x01, 0x01, 0x01, 0x01, kind,
-        0x00,
-    ]
 }

@@ -7,7 +7,8 @@ use Rattle.mxf_partitions.specs.declared.random_index.PackEntry.{PackEntry}
 use Rattle.mxf_partitions.specs.RandomIndex.{entry_bytes}
 
 -- the entries up to one are those before it, and it
-pub one_more : (entries : List PackEntry) (k : ℕ) (none : PackEntry) → k < length entries → flat_map entry_bytes (take (k + 1) entries) ≡ flat_map entry_bytes (take k entries) ++ entry_bytes (get_or entries k none)
+pub one_more : (entries : List PackEntry) (k : ℕ) (none : PackEntry) → k < length entries
+    → flat_map entry_bytes (take (k + 1) entries) ≡ flat_map entry_bytes (take k entries) ++ entry_bytes (get_or entries k none)
 one_more entries k none below =
     ap (flat_map entry_bytes) (take_more entries k none below)
     ∙ flat_map-append entry_bytes (take k entries) (get_or entries k none ∷ [])

@@ -1,3 +1,3 @@
 pub mod Partitions
 pub mod RandomIndex
-pub mod Laws
+pub mod laws

@@ -2,54 +2,45 @@
 
 ghost use Rattle.std.specs.Prelude.{[], ◌∷◌, ◌≡◌, ◌+◌, ◌≤◌, ◌++◌, length};
 ghost use Rattle.byteorder.specs.Endian.{big_bytes};
-ghost use Rattle.klv.specs.Items.{klv_head};
 ghost use Rattle.rec_bytes.specs.Places.{with_bytes};
-ghost use Rattle.mxf_partitions.specs.Partitions.{kind_byte, status_byte, pack_key, label_batch, partition_pack};
+ghost use Rattle.mxf_partitions.specs.Partitions.{label_batch, partition_pack};
+ghost use Rattle.mxf_partitions.specs.declared.partition.TheConstants.{VERSION_LEN, PLACES_LEN, SIZES_LEN, BODY_LEN, LABEL_LEN, BATCH_HEAD_LEN};
 
-use crate::writes::put_head;
+use klv::{Form, SET_HEAD_LEN, put_klv_head_at};
+use mxf_names::{PartitionKind, PartitionStatus, partition_key};
 use rec_bytes::{put_bytes, put_u16, put_u32, put_u64};
 
+/// Bytes of the versions and the alignment.
+const VERSION_LEN: usize = 2 + 2 + 4;
+
+/// Bytes of the places of three packs.
+const PLACES_LEN: usize = 8 + 8 + 8;
+
+/// Bytes of the sizes of metadata and index tables, and of the number of their stream.
+const SIZES_LEN: usize = 8 + 8 + 4;
+
+/// Bytes of the place in the essence stream, and of that stream's number.
+const BODY_LEN: usize = 8 + 4;
+
+/// Bytes of what stands before the labels: how many there are, and the bytes of each.
+const BATCH_HEAD_LEN: usize = 4 + 4;
+
+/// Bytes of a label.
+pub const LABEL_LEN: usize = 16;
+
+/// Bytes of a partition pack's value without its labels of essence containers.
+pub const PACK_FIELDS_LEN: usize = VERSION_LEN
+    + PLACES_LEN
+    + SIZES_LEN
+    + BODY_LEN
+    + LABEL_LEN
+    + BATCH_HEAD_LEN;
+
+/// Bytes of the value of a partition pack with one label.
+const PACK_VALUE_LEN: usize = PACK_FIELDS_LEN + LABEL_LEN;
+
 /// Bytes of a partition pack with one label.
-pub const PACK_LEN: usize = 124;
-
-/// What the keys of all partition packs begin with (SMPTE ST 377-1).
-pub const PARTITION_KEY_START: [u8; 13] = [
-    0x06, 0x0e, 0x2b, 0x34, 0x02, 0x05, 0x01, 0x01, 0x0d, 0x01, 0x02, 0x01, 0x01,
-];
-
-/// The label of the operational pattern of our files (our own constant, after SMPTE ST 378, OP1a).
-pub const OPERATIONAL_PATTERN: [u8; 16] = [
-    0x06, 0x0e, 0x2b, 0x34, 0x04, 0x01, 0x01, 0x01, 0x0d, 0x01, 0x02, 0x01, 0x01, 0x01, 0x09, 0x00,
-];
-
-/// The label of the essence container of our files (our own constant, after SMPTE RDD 44).
-pub const ESSENCE_CONTAINER_LABEL: [u8; 16] = [
-    0x06, 0x0e, 0x2b, 0x34, 0x04, 0x01, 0x01, 0x0d, 0x0d, 0x01, 0x03, 0x01, 0x02, 0x1c, 0x01, 0x00,
-];
-
-/// Which part of the file a partition is (SMPTE ST 377-1).
-#[derive(Clone, Copy, Debug, PartialEq, Eq)]
-pub enum PartitionKind {
-    /// The first.
-    Header,
-    /// One between the first and the last.
-    Body,
-    /// The last.
-    Footer,
-}
-
-/// Whether what a partition says of the file is final, and whether it is all there (SMPTE ST 377-1).
-#[derive(Clone, Copy, Debug, PartialEq, Eq)]
-pub enum PartitionStatus {
-    /// Values may change, and some are missing.
-    OpenIncomplete,
-    /// Values are final, and some are missing.
-    ClosedIncomplete,
-    /// Values may change, and all are there.
-    OpenComplete,
-    /// Values are final, and all are there.
-    ClosedComplete,
-}
+pub const PACK_LEN: usize = SET_HEAD_LEN + PACK_VALUE_LEN;
 
 /// What a partition pack says (SMPTE ST 377-1). Places are counted from the file's first byte.
 #[derive(Clone, Copy, Debug, PartialEq, Eq)]
@@ -84,7 +75,7 @@ pub struct Partition {
     pub pattern: [u8; 16],
     /// How many labels of essence containers there are. Only one is written.
     pub label_count: u32,
-    /// Label of the essence container.
+    /// The first label of an essence container, 16 zero bytes where there is none.
     pub label: [u8; 16],
 }
 
@@ -93,116 +84,89 @@ pub fn put_partition(p: &Partition, out: &mut [u8; PACK_LEN])
     requires { p.now.label_count ≡ 1 }
     ensures { out.new ≡ partition_pack p.now }
 {
-    put_key(p, out);
-    put_version(p, out, 20);
-    put_places(p, out, 28);
-    put_sizes(p, out, 52);
-    put_body(p, out, 72);
-    put_labels(p, out, 84);
+    let key = partition_key(p.kind, p.status);
+    let version_at = put_klv_head_at(&key, PACK_VALUE_LEN as u64, Form::Three, out, 0);
+    let places_at = put_version(p, out, version_at);
+    let sizes_at = put_places(p, out, places_at);
+    let body_at = put_sizes(p, out, sizes_at);
+    let pattern_at = put_body(p, out, body_at);
+    let labels_at = put_pattern(p, out, pattern_at);
+    put_labels(p, out, labels_at);
 }
 
-fn put_key(p: &Partition, out: &mut [u8])
-    requires { 20 ≤ length out.old }
-    ensures { out.new ≡ with_bytes out.old 0 (klv_head (pack_key p.now.kind p.now.status) 3 104) }
-{
-    put_head(&key_of(p), 104, out, 0);
-}
-
-fn key_of(p: &Partition) -> [u8; 16]
-    ensures { result ≡ pack_key p.now.kind p.now.status }
-{
-    [
-        0x06,
-        0x0e,
-        0x2b,
-        0x34,
-        0x02,
-        0x05,
-        0x01,
-        0x01,
-        0x0d,
-        0x01,
-        0x02,
-        0x01,
-        0x01,
-        kind_byte(p.kind),
-        status_byte(p.status),
-        0,
-    ]
-}
-
-fn kind_byte(kind: PartitionKind) -> u8
-    ensures { result ≡ kind_byte kind }
-{
-    match kind {
-        PartitionKind::Header => 2,
-        PartitionKind::Body => 3,
-        PartitionKind::Footer => 4,
-    }
-}
-
-fn status_byte(status: PartitionStatus) -> u8
-    ensures { result ≡ status_byte status }
-{
-    match status {
-        PartitionStatus::OpenIncomplete => 1,
-        PartitionStatus::ClosedIncomplete => 2,
-        PartitionStatus::OpenComplete => 3,
-        PartitionStatus::ClosedComplete => 4,
-    }
-}
-
-fn put_version(p: &Partition, out: &mut [u8], at: usize)
-    requires { at + 8 ≤ length out.old }
-    ensures { out.new ≡ with_bytes out.old at (big_bytes 2 p.now.major ++ big_bytes 2 p.now.minor ++ big_bytes 4 p.now.kag) }
+/// Writes the versions of the format and the alignment, and answers the place behind them.
+fn put_version(p: &Partition, out: &mut [u8], at: usize) -> usize
+    requires { at + VERSION_LEN ≤ length out.old }
+    ensures behind { result ≡ at + VERSION_LEN }
+    ensures written { out.new ≡ with_bytes out.old at (big_bytes 2 p.now.major ++ big_bytes 2 p.now.minor ++ big_bytes 4 p.now.kag) }
 {
     put_u16(out, at, p.major);
     put_u16(out, at + 2, p.minor);
     put_u32(out, at + 4, p.kag);
+    at + VERSION_LEN
 }
 
-fn put_places(p: &Partition, out: &mut [u8], at: usize)
-    requires { at + 24 ≤ length out.old }
-    ensures { out.new ≡ with_bytes out.old at (big_bytes 8 p.now.this ++ big_bytes 8 p.now.previous ++ big_bytes 8 p.now.footer) }
+/// Writes the places of packs, and answers the place behind them.
+fn put_places(p: &Partition, out: &mut [u8], at: usize) -> usize
+    requires { at + PLACES_LEN ≤ length out.old }
+    ensures behind { result ≡ at + PLACES_LEN }
+    ensures written { out.new ≡ with_bytes out.old at (big_bytes 8 p.now.this ++ big_bytes 8 p.now.previous ++ big_bytes 8 p.now.footer) }
 {
     put_u64(out, at, p.this);
     put_u64(out, at + 8, p.previous);
     put_u64(out, at + 16, p.footer);
+    at + PLACES_LEN
 }
 
-fn put_sizes(p: &Partition, out: &mut [u8], at: usize)
-    requires { at + 20 ≤ length out.old }
-    ensures { out.new ≡ with_bytes out.old at (big_bytes 8 p.now.header_bytes ++ big_bytes 8 p.now.index_bytes ++ big_bytes 4 p.now.index_sid) }
+/// Writes the sizes of what stands behind the pack, and answers the place behind them.
+fn put_sizes(p: &Partition, out: &mut [u8], at: usize) -> usize
+    requires { at + SIZES_LEN ≤ length out.old }
+    ensures behind { result ≡ at + SIZES_LEN }
+    ensures written { out.new ≡ with_bytes out.old at (big_bytes 8 p.now.header_bytes ++ big_bytes 8 p.now.index_bytes ++ big_bytes 4 p.now.index_sid) }
 {
     put_u64(out, at, p.header_bytes);
     put_u64(out, at + 8, p.index_bytes);
     put_u32(out, at + 16, p.index_sid);
+    at + SIZES_LEN
 }
 
-fn put_body(p: &Partition, out: &mut [u8], at: usize)
-    requires { at + 12 ≤ length out.old }
-    ensures { out.new ≡ with_bytes out.old at (big_bytes 8 p.now.body_offset ++ big_bytes 4 p.now.body_sid) }
+/// Writes what the pack says of the essence, and answers the place behind it.
+fn put_body(p: &Partition, out: &mut [u8], at: usize) -> usize
+    requires { at + BODY_LEN ≤ length out.old }
+    ensures behind { result ≡ at + BODY_LEN }
+    ensures written { out.new ≡ with_bytes out.old at (big_bytes 8 p.now.body_offset ++ big_bytes 4 p.now.body_sid) }
 {
     put_u64(out, at, p.body_offset);
     put_u32(out, at + 8, p.body_sid);
+    at + BODY_LEN
 }
 
-// The pattern, and the batch of the one label.
-fn put_labels(p: &Partition, out: &mut [u8], at: usize)
-    requires { at + 40 ≤ length out.old }
-    ensures pattern { length p.now.pattern ≡ 16 }
-    ensures label { length p.now.label ≡ 16 }
-    ensures written { out.new ≡ with_bytes out.old at (p.now.pattern ++ label_batch (p.now.label ∷ [])) }
+/// Writes the label of the operational pattern, and answers the place behind it.
+fn put_pattern(p: &Partition, out: &mut [u8], at: usize) -> usize
+    requires { at + LABEL_LEN ≤ length out.old }
+    ensures sized { length p.now.pattern ≡ LABEL_LEN }
+    ensures behind { result ≡ at + LABEL_LEN }
+    ensures written { out.new ≡ with_bytes out.old at p.now.pattern }
 {
     put_bytes(out, at, &p.pattern);
-    put_u32(out, at + 16, 1);
-    put_u32(out, at + 20, 16);
-    put_bytes(out, at + 24, &p.label);
+    at + LABEL_LEN
+}
+
+/// Writes the batch of the one label.
+fn put_labels(p: &Partition, out: &mut [u8], at: usize)
+    requires { at + BATCH_HEAD_LEN + LABEL_LEN ≤ length out.old }
+    ensures sized { length p.now.label ≡ LABEL_LEN }
+    ensures written { out.new ≡ with_bytes out.old at (label_batch (p.now.label ∷ [])) }
+{
+    put_u32(out, at, 1);
+    put_u32(out, at + 4, LABEL_LEN as u32);
+    put_bytes(out, at + BATCH_HEAD_LEN, &p.label);
 }
 
 #[cfg(test)]
 mod tests {
     use super::*;
+    use mxf_names::{ESSENCE_CONTAINER_LABEL, OPERATIONAL_PATTERN_1A};
 
     /// The pack of the header partition of a file of ours with nothing known yet.
     const HEADER: Partition = Partition {
@@ -219,7 +183,7 @@ mod tests {
         index_sid: 0,
         body_offset: 0,
         body_sid: 0,
-        pattern: OPERATIONAL_PATTERN,
+        pattern: OPERATIONAL_PATTERN_1A,
         label_count: 1,
         label: ESSENCE_CONTAINER_LABEL,
     };

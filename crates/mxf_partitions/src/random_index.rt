@@ -3,15 +3,19 @@
 ghost use Rattle.std.specs.Prelude.{◌≡◌, ◌+◌, ◌*◌, ◌≤◌, length};
 ghost use Rattle.std.specs.List.{flat_map};
 ghost use Rattle.rec_bytes.specs.Places.{with_bytes};
+ghost use Rattle.klv.specs.declared.head.TheConstants.{SET_HEAD_LEN};
+ghost use Rattle.mxf_partitions.specs.declared.random_index.TheConstants.{PACK_ENTRY_LEN, PACK_END_LEN};
 ghost use Rattle.mxf_partitions.specs.RandomIndex.{random_index_pack, random_index_head, random_index_end, entry_bytes};
 
-use crate::writes::put_head;
+use klv::{Form, SET_HEAD_LEN, put_klv_head_at};
+use mxf_names::RANDOM_INDEX_KEY;
 use rec_bytes::{put_u32, put_u64};
 
-/// The key of a random index pack (SMPTE ST 377-1).
-pub const RANDOM_INDEX_KEY: [u8; 16] = [
-    0x06, 0x0e, 0x2b, 0x34, 0x02, 0x05, 0x01, 0x01, 0x0d, 0x01, 0x02, 0x01, 0x01, 0x11, 0x01, 0x00,
-];
+/// Bytes of an entry: the number of a stream, and a place.
+pub const PACK_ENTRY_LEN: usize = 4 + 8;
+
+/// Bytes of the length at the end.
+pub const PACK_END_LEN: usize = 4;
 
 /// Most entries of a random index pack whose length has three bytes.
 pub const MAX_ENTRIES: u32 = 1_398_100;
@@ -27,16 +31,16 @@ pub struct PackEntry {
 
 /// Bytes of a random index pack with so many entries.
 pub fn random_index_len(count: u32) -> usize
-    ensures { result ≡ 24 + 12 * count }
+    ensures { result ≡ SET_HEAD_LEN + PACK_ENTRY_LEN * count + PACK_END_LEN }
 {
-    24 + 12 * (count as usize)
+    SET_HEAD_LEN + PACK_ENTRY_LEN * (count as usize) + PACK_END_LEN
 }
 
 /// Writes a random index pack at the front, and answers how many bytes it has.
 pub fn put_random_index(entries: &[PackEntry], out: &mut [u8]) -> usize
     requires few { length entries.now ≤ MAX_ENTRIES }
-    requires room { 24 + 12 * length entries.now ≤ length out.old }
-    ensures count { result ≡ 24 + 12 * length entries.now }
+    requires room { SET_HEAD_LEN + PACK_ENTRY_LEN * length entries.now + PACK_END_LEN ≤ length out.old }
+    ensures count { result ≡ SET_HEAD_LEN + PACK_ENTRY_LEN * length entries.now + PACK_END_LEN }
     ensures written { out.new ≡ with_bytes out.old 0 (random_index_pack entries.now) }
 {
     let count = entries.len() as u32;
@@ -46,8 +50,8 @@ pub fn put_random_index(entries: &[PackEntry], out: &mut [u8]) -> usize
 }
 
 fn put_entries(entries: &[PackEntry], out: &mut [u8], at: usize) -> usize
-    requires room { at + 12 * length entries.now ≤ length out.old }
-    ensures behind { result ≡ at + 12 * length entries.now }
+    requires room { at + PACK_ENTRY_LEN * length entries.now ≤ length out.old }
+    ensures behind { result ≡ at + PACK_ENTRY_LEN * length entries.now }
     ensures written { out.new ≡ with_bytes out.old at (flat_map entry_bytes entries.now) }
 {
     let mut end = at;
@@ -60,33 +64,34 @@ fn put_entries(entries: &[PackEntry], out: &mut [u8], at: usize) -> usize
 /// Writes what stands before the entries of a random index pack, at a place, and answers the place behind.
 pub fn put_random_index_head(count: u32, out: &mut [u8], at: usize) -> usize
     requires few { count ≤ MAX_ENTRIES }
-    requires room { at + 20 ≤ length out.old }
-    ensures behind { result ≡ at + 20 }
+    requires room { at + SET_HEAD_LEN ≤ length out.old }
+    ensures behind { result ≡ at + SET_HEAD_LEN }
     ensures written { out.new ≡ with_bytes out.old at (random_index_head count) }
 {
-    put_head(&RANDOM_INDEX_KEY, 12 * u64::from(count) + 4, out, at)
+    let len = PACK_ENTRY_LEN * (count as usize) + PACK_END_LEN;
+    put_klv_head_at(&RANDOM_INDEX_KEY, len as u64, Form::Three, out, at)
 }
 
 /// Writes an entry of a random index pack at a place, and answers the place behind.
 pub fn put_pack_entry(entry: &PackEntry, out: &mut [u8], at: usize) -> usize
-    requires room { at + 12 ≤ length out.old }
-    ensures behind { result ≡ at + 12 }
+    requires room { at + PACK_ENTRY_LEN ≤ length out.old }
+    ensures behind { result ≡ at + PACK_ENTRY_LEN }
     ensures written { out.new ≡ with_bytes out.old at (entry_bytes entry.now) }
 {
     put_u32(out, at, entry.body_sid);
     put_u64(out, at + 4, entry.at);
-    at + 12
+    at + PACK_ENTRY_LEN
 }
 
 /// Writes what stands behind the entries of a random index pack, at a place, and answers the place behind.
 pub fn put_random_index_end(count: u32, out: &mut [u8], at: usize) -> usize
     requires few { count ≤ MAX_ENTRIES }
-    requires room { at + 4 ≤ length out.old }
-    ensures behind { result ≡ at + 4 }
+    requires room { at + PACK_END_LEN ≤ length out.old }
+    ensures behind { result ≡ at + PACK_END_LEN }
     ensures written { out.new ≡ with_bytes out.old at (random_index_end count) }
 {
-    put_u32(out, at, 24 + 12 * count);
-    at + 4
+    put_u32(out, at, random_index_len(count) as u32);
+    at + PACK_END_LEN
 }
 
 #[cfg(test)]
@@ -117,7 +122,8 @@ mod tests {
         let mut out = [0xee; 62];
         let mut want = [0xee; 62];
         want[..60].copy_from_slice(&BYTES);
-        assert_eq!(rt; random_index_len(3), 60);
+        assert_eq!(rt; random_index_len(3), 60, "bytes of three entries");
+        assert_eq!(rt; MAX_ENTRIES, 1_398_100, "most entries");
         assert_eq!(rt;
             put_random_index(&entries, &mut out),
             60,

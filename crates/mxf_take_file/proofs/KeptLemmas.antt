@@ -1,9 +1,9 @@
 -- What the last of the places tells.
 use Rattle.std.proofs.Common.{◌≡◌, ℕ, ◌+◌, ◌-◌, ◌<◌, ◌≤◌, zero, suc, List, [], ◌∷◌, length, take, get_or, refl, sym, ap, ◌∙◌, arith}
 use Rattle.std.proofs.lemmas.List.{take_all}
-use Rattle.take_core.specs.declared.place.Place.{Place}
-use Rattle.mxf_take_file.specs.Kept.{end_behind, total_behind}
-use Rattle.mxf_take_file.specs.declared.numbers.TheConstants.{HEAD_LEN}
+use Rattle.take_layout.specs.declared.place.Place.{Place}
+use Rattle.mxf_take_file.specs.inner.Kept.{end_behind, total_behind}
+use Rattle.mxf_take_file.specs.declared.lead.TheConstants.{HEADER_LEN}
 
 -- the end of the first units is that of the last of them
 pub end_of_last : (places : List Place) (end n : ℕ) (d : Place) → n < length places → end_behind end (take (n + 1) places) ≡ (get_or places n d).at + (get_or places n d).len
@@ -32,13 +32,13 @@ total_of_all places d h =
 
 -- where the first so many units end, of which there are some
 pub end_of_some : (places : List Place) (count : ℕ) (d : Place) → (count ≡ 0 → ⊥) → count ≤ length places
-    → (get_or places (count - 1) d).at + (get_or places (count - 1) d).len ≡ end_behind HEAD_LEN (take count places)
+    → (get_or places (count - 1) d).at + (get_or places (count - 1) d).len ≡ end_behind HEADER_LEN (take count places)
 end_of_some places count d some h =
     let e : count - 1 + 1 ≡ count = omega arith in
-    sym (end_of_last places HEAD_LEN (count - 1) d (omega arith)) ∙ ap (λ (n : ℕ). end_behind HEAD_LEN (take n places)) e
+    sym (end_of_last places HEADER_LEN (count - 1) d (omega arith)) ∙ ap (λ (n : ℕ). end_behind HEADER_LEN (take n places)) e
 
 -- where none of them end
-pub end_of_none : (places : List Place) (count : ℕ) → count ≡ 0 → HEAD_LEN ≡ end_behind HEAD_LEN (take count places)
+pub end_of_none : (places : List Place) (count : ℕ) → count ≡ 0 → HEADER_LEN ≡ end_behind HEADER_LEN (take count places)
 unfolding end_behind
 end_of_none places count none = rw none refl
 

@@ -4,19 +4,19 @@ use Rattle.std.proofs.lemmas.Bool.{cases_eq, ne_eqb}
 use Rattle.std.proofs.lemmas.List.{length-append, length-drop}
 use Rattle.rec_bytes.specs.Configuration.{Fields}
 use Rattle.klv.specs.Items.{klv_head}
-use Rattle.klv.specs.declared.picture.TheConstants.{PICTURE_ELEMENT_KEY}
+use Rattle.mxf_names.specs.declared.keys.TheConstants.{PICTURE_ELEMENT_KEY}
 use Rattle.mxf_partitions.specs.Partitions.{partition_pack}
 use Rattle.mxf_index.specs.Segments.{index_segment}
-use Rattle.mxf_index.specs.declared.segment.TheConstants.{INDEX_SEGMENT_KEY}
-use Rattle.take_core.specs.declared.walk.Walk.TheVariants as walk
+use Rattle.mxf_names.specs.declared.keys.TheConstants.{INDEX_SEGMENT_KEY}
+use Rattle.take_layout.specs.declared.walk.Walk.TheVariants as walk
 use Rattle.mxf_take_file.specs.Extents.{Extents, extents, segment_bytes}
 use Rattle.mxf_take_file.specs.Layout.{body_start, start_of, lead_of, lead}
 use Rattle.mxf_take_file.specs.Packs.{body_pack}
 use Rattle.mxf_take_file.specs.Segments.{segment_of_entries, segment_from, whole_first}
-use Rattle.mxf_take_file.specs.Standing.{stand_first, look_of, look_at}
-use Rattle.mxf_take_file.specs.Laws.Lengths.{length_head}
-use Rattle.mxf_take_file.specs.Laws.Parts.{IsWhole, extents_whole, body_pack_len, start_due, start_not_due, whole_segment_len}
-use Rattle.mxf_take_file.specs.declared.numbers.TheConstants.{MAX_UNIT}
+use Rattle.mxf_take_file.specs.inner.Standing.{stand_first, look_of, look_at}
+use Rattle.mxf_take_file.specs.laws.Lengths.{length_head}
+use Rattle.mxf_take_file.specs.laws.Parts.{IsWhole, extents_whole, body_pack_len, start_due, start_not_due, whole_segment_len}
+use Rattle.mxf_take_file.specs.declared.picture_layout.TheConstants.{MAX_UNIT}
 use Rattle.mxf_take_file.specs.declared.walk.Stand.{Stand}
 use Rattle.mxf_take_file.proofs.SegmentLemmas.{none_from}
 use Rattle.mxf_take_file.proofs.WalkLemmas.{Stood, IsPack, IsSegment, first_stood, pack_stood, segment_stood, found}

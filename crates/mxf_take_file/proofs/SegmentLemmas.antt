@@ -3,14 +3,14 @@ use Rattle.std.proofs.Common.{◌≡◌, ℕ, ◌+◌, ◌*◌, ◌<◌, List, [
 use Rattle.std.proofs.lemmas.List.{drop_all, length-drop, take-append-drop, drop-map}
 use Rattle.rec_bytes.specs.Configuration.{Fields}
 use Rattle.rec_bytes.specs.Places.{with_bytes}
-use Rattle.mxf_metadata.specs.Identifiers.{ids_of}
+use Rattle.mxf_names.specs.Identifiers.{ids_of}
 use Rattle.mxf_index.specs.Segments.{index_segment}
-use Rattle.mxf_index.specs.Laws.{length-index_segment}
-use Rattle.take_core.specs.declared.place.Place.{Place}
+use Rattle.mxf_index.specs.laws.Lengths.{length-index_segment}
+use Rattle.take_layout.specs.declared.place.Place.{Place}
 use Rattle.mxf_take_file.specs.Extents.{Extents}
-use Rattle.mxf_take_file.specs.Kept.{extents_kept}
+use Rattle.mxf_take_file.specs.inner.Kept.{extents_kept}
 use Rattle.mxf_take_file.specs.Segments.{segment_of_entries, segment_from}
-use Rattle.mxf_take_file.specs.Laws.Parts.{IsWhole, ids_sized, kept_whole}
+use Rattle.mxf_take_file.specs.laws.Parts.{IsWhole, ids_sized, kept_whole}
 
 -- no units, no segment
 pub none_from : (cfg : Fields) (e : Extents) (first : ℕ) → IsWhole e → first ≡ e.count → segment_from cfg e first ≡ []

@@ -9,17 +9,17 @@ use Rattle.rec_bytes.specs.Configuration.{Fields}
 use Rattle.klv.specs.Items.{length_bytes}
 use Rattle.mxf_partitions.specs.Partitions.{partition_pack}
 use Rattle.mxf_partitions.specs.RandomIndex.{entry_bytes, random_index_pack, random_index_head, random_index_end}
-use Rattle.mxf_partitions.specs.Laws.{length-entries, length-partition_pack, random_index_pack-pieces, length-random_index_pack}
-use Rattle.mxf_metadata.specs.Identifiers.{ids_of}
+use Rattle.mxf_partitions.specs.laws.Lengths.{length-entries, length-partition_pack, random_index_pack-pieces, length-random_index_pack}
+use Rattle.mxf_names.specs.Identifiers.{ids_of}
 use Rattle.mxf_metadata.specs.Metadata.{metadata}
 use Rattle.mxf_take_file.specs.Extents.{Extents, body_count}
 use Rattle.mxf_take_file.specs.Layout.{tail_of}
 use Rattle.mxf_take_file.specs.Segments.{segment_from, last_first}
 use Rattle.rec_bytes.specs.Ranges.{IsInRange}
 use Rattle.mxf_take_file.specs.Packs.{body_entries, pack_entries, entry, footer_pack}
-use Rattle.mxf_index.specs.declared.tags.TheConstants.{ESSENCE_STREAM}
-use Rattle.mxf_take_file.specs.Laws.Counts.{last_within}
-use Rattle.mxf_take_file.specs.Laws.Parts.{entries_count, metadata_len}
+use Rattle.mxf_names.specs.declared.streams.TheConstants.{ESSENCE_STREAM}
+use Rattle.mxf_take_file.specs.laws.Counts.{last_within}
+use Rattle.mxf_take_file.specs.laws.Parts.{entries_count, metadata_len}
 
 -- so many entries have so many bytes
 pub bodies_len : (part : ℕ) (e : Extents) (k : ℕ) → length (flat_map entry_bytes (body_entries part e k)) ≡ 12 * k
@@ -59,7 +59,7 @@ packs_joined cfg e n h =
 
 -- its length
 pub packs_len : (cfg : Fields) (e : Extents) → length (random_index_pack (pack_entries cfg e)) ≡ 24 + 12 * (body_count cfg.part e.count + 2)
-packs_len cfg e = length-random_index_pack (pack_entries cfg e) ∙ ap (λ (n : ℕ). 24 + 12 * n) (entries_count cfg e)
+packs_len cfg e = omega (arith, length-random_index_pack (pack_entries cfg e), entries_count cfg e)
 
 -- the length of what stands before its entries
 pub packs_head_len : (n : ℕ) → length (random_index_head n) ≡ 20

@@ -1,19 +1,20 @@
 -- What a look at bytes that begin with a lead finds.
 use Rattle.std.proofs.Common.{◌≡◌, ℕ, ◌+◌, ◌^◌, ◌<◌, ◌≤◌, ◌⊎◌, inl, inr, Bool, true, false, cond, List, [], ◌++◌, length, take, drop, get_or, refl, sym, subst, ap, ap₂, ◌∙◌, arith, append_assoc}
+use Rattle.std.specs.Prelude.{nat_lt}
 use Rattle.std.specs.Str.{bytes_eq}
-use Rattle.std.proofs.lemmas.Bool.{cases_lt, lt-ltb, le-ltb, ltb-false}
+use Rattle.std.proofs.lemmas.Bool.{cases_lt, lt-ltb, le-ltb, ltb-false, ltb-true}
 use Rattle.std.proofs.lemmas.List.{length-append, length-drop, take_at, drop_at, take-append-le, drop-append-le, take-append-drop, drop-drop, get_or-drop}
 use Rattle.std.proofs.lemmas.Slice.Eq.{bytes_eq-Decides}
 use Rattle.byteorder.specs.Endian.{big_bytes, big_number}
 use Rattle.byteorder.specs.Numbers.{big_number-reads_back}
 use Rattle.klv.specs.Items.{klv_head, length_bytes}
-use Rattle.klv.specs.declared.picture.TheConstants.{PICTURE_ELEMENT_KEY}
-use Rattle.mxf_index.specs.declared.segment.TheConstants.{INDEX_SEGMENT_KEY}
-use Rattle.take_core.specs.declared.walk.Walk.TheVariants as walk
+use Rattle.mxf_names.specs.declared.keys.TheConstants.{PICTURE_ELEMENT_KEY}
+use Rattle.mxf_names.specs.declared.keys.TheConstants.{INDEX_SEGMENT_KEY}
+use Rattle.take_layout.specs.declared.walk.Walk.TheVariants as walk
 use Rattle.mxf_take_file.specs.Extents.{segment_bytes}
-use Rattle.mxf_take_file.specs.Standing.{stands, stand_at, stand_behind_pack, stand_first, found_at, look_of}
-use Rattle.mxf_take_file.specs.Laws.Lengths.{length_head}
-use Rattle.mxf_take_file.specs.declared.numbers.TheConstants.{BODY_KEY, MAX_UNIT}
+use Rattle.mxf_take_file.specs.inner.Standing.{body_key, stands, stand_at, stand_behind_pack, stand_first, found_at, look_of}
+use Rattle.mxf_take_file.specs.laws.Lengths.{length_head}
+use Rattle.mxf_take_file.specs.declared.picture_layout.TheConstants.{MAX_UNIT}
 use Rattle.mxf_take_file.specs.declared.walk.Stand.{Stand}
 use Rattle.mxf_take_file.specs.declared.walk.Stand.TheVariants.{At, More, Broken}
 
@@ -76,7 +77,7 @@ first_stood part bytes missing tail n e = elim (cases_lt (length bytes) 24) [
 
 -- the pack of a body partition
 pub record IsPack (pack : List ℕ) : Type 0 where
-  pub key : take 16 pack ≡ BODY_KEY
+  pub key : take 16 pack ≡ body_key
   pub size : length pack ≡ 124
 
 -- an index table segment of a whole body partition
@@ -88,9 +89,9 @@ pub record IsSegment (part : ℕ) (segment : List ℕ) : Type 0 where
 behind_first : (part : ℕ) (bytes missing pack rest : List ℕ) → bytes ++ missing ≡ pack ++ rest → IsPack pack → 24 ≤ length bytes → stand_first part bytes ≡ stand_behind_pack part bytes
 unfolding stand_first
 behind_first part bytes missing pack rest e p room =
-    let key : take 16 (drop 0 bytes) ≡ BODY_KEY = front_key bytes missing [] pack rest BODY_KEY 0 e refl p.key refl (omega arith) in
-    let no = stands_no bytes BODY_KEY PICTURE_ELEMENT_KEY 0 key refl in
-    let yes = stands_yes bytes BODY_KEY 0 key in
+    let key : take 16 (drop 0 bytes) ≡ body_key = front_key bytes missing [] pack rest body_key 0 e refl p.key refl (omega arith) in
+    let no = stands_no bytes body_key PICTURE_ELEMENT_KEY 0 key refl in
+    let yes = stands_yes bytes body_key 0 key in
     rw (le-ltb (length bytes) 24 room, no, yes) refl
 
 -- the element stands behind a pack
@@ -156,3 +157,55 @@ pub look_says : (s : Stand) (bytes : List ℕ) (from v m : ℕ) → look_of s by
 look_says (At at) bytes from v m e = found_says bytes at from v m e
 look_says (More need) bytes from v m e = cc
 look_says (Broken at) bytes from v m e = cc
+
+-- what bytes that are too few say, by two keys
+asks_by_keys : (p q r : Bool) (a k b : ℕ) (s : Stand) (n : ℕ) → cond p (More a) (cond q (At k) (cond r s (Broken b))) ≡ More n → ((p ≡ true) × (n ≡ a)) ⊎ (s ≡ More n)
+asks_by_keys true q r a k b s n e = inl (refl, cc)
+asks_by_keys false true r a k b s n e = absurd cc
+asks_by_keys false false true a k b s n e = inr e
+asks_by_keys false false false a k b s n e = absurd cc
+
+-- the same by one key
+asks_by_key : (p q : Bool) (a k b n : ℕ) → cond p (More a) (cond q (At k) (Broken b)) ≡ More n → (p ≡ true) × (n ≡ a)
+asks_by_key true q a k b n e = (refl, cc)
+asks_by_key false true a k b n e = absurd cc
+asks_by_key false false a k b n e = absurd cc
+
+-- more is asked for where the bytes are too few, and no more than a lead has
+asks_at : (bytes : List ℕ) (at n : ℕ) → stand_at bytes at ≡ More n → (length bytes < n) × (n ≡ at + 24)
+unfolding stand_at
+asks_at bytes at n e =
+    let t = asks_by_key _ _ _ _ _ n e in
+    let short : length bytes < at + 24 = ltb-true (length bytes) (at + 24) t.0 in
+    (omega (arith, short, t.1), t.1)
+
+asks_behind : (part : ℕ) (bytes : List ℕ) (n : ℕ) → stand_behind_pack part bytes ≡ More n → (length bytes < n) × (n ≤ 124 + segment_bytes part + 24)
+unfolding stand_behind_pack
+asks_behind part bytes n e = elim (asks_by_keys (nat_lt (length bytes) 148) (stands bytes 124 PICTURE_ELEMENT_KEY) (stands bytes 124 INDEX_SEGMENT_KEY) 148 124 124 (stand_at bytes (124 + segment_bytes part)) n e) [
+  | inl here ↦ let short : length bytes < 148 = ltb-true (length bytes) 148 here.0 in (omega (arith, short, here.1), omega (arith, here.1))
+  | inr more ↦ let t = asks_at bytes (124 + segment_bytes part) n more in (t.0, omega (arith, t.1))
+]
+
+asks_first : (part : ℕ) (bytes : List ℕ) (n : ℕ) → stand_first part bytes ≡ More n → (length bytes < n) × (n ≤ 124 + segment_bytes part + 24)
+unfolding stand_first
+asks_first part bytes n e = elim (asks_by_keys (nat_lt (length bytes) 24) (stands bytes 0 PICTURE_ELEMENT_KEY) (stands bytes 0 body_key) 24 0 0 (stand_behind_pack part bytes) n e) [
+  | inl here ↦ let short : length bytes < 24 = ltb-true (length bytes) 24 here.0 in (omega (arith, short, here.1), omega (arith, here.1))
+  | inr more ↦ asks_behind part bytes n more
+]
+
+-- a place that is found asks for nothing
+found_asks : (p q r : Bool) (a b c u l n : ℕ) → cond p (cond q (walk.Broken a) (cond r (walk.Lead u l) (walk.Broken b))) (walk.Broken c) ≡ walk.More n → ⊥
+found_asks false q r a b c u l n e = cc
+found_asks true true r a b c u l n e = cc
+found_asks true false false a b c u l n e = cc
+found_asks true false true a b c u l n e = cc
+
+look_asks : (s : Stand) (bytes : List ℕ) (from n : ℕ) → look_of s bytes from ≡ walk.More n → s ≡ More n
+unfolding found_at
+look_asks (At at) bytes from n e = absurd (found_asks _ _ _ _ _ _ _ _ n e)
+look_asks (More need) bytes from n e = cc
+look_asks (Broken at) bytes from n e = absurd cc
+
+-- so does a look
+pub look_more : (part : ℕ) (bytes : List ℕ) (from n : ℕ) → look_of (stand_first part bytes) bytes from ≡ walk.More n → (length bytes < n) × (n ≤ 124 + segment_bytes part + 24)
+look_more part bytes from n e = asks_first part bytes n (look_asks (stand_first part bytes) bytes from n e)

@@ -1,7 +1,7 @@
 -- The essence stream of units: their picture elements, joined (SMPTE ST 379-2). docs/FORMATS.md, "A take's file".
 use Rattle.std.specs.Prelude.{ℕ, List, [], ◌∷◌, ◌++◌, length}
 use Rattle.std.specs.List.{flat_map}
-use Rattle.klv.specs.Picture.{picture_element}
+use Rattle.mxf_names.specs.Picture.{picture_element}
 
 -- the essence stream of the units
 abbrev pub essence : List (List ℕ) → List ℕ

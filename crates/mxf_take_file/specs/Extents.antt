@@ -5,7 +5,7 @@ use Rattle.mxf_partitions.specs.declared.partition.TheConstants.{PACK_LEN}
 use Rattle.mxf_index.specs.declared.segment.TheConstants.{SEGMENT_LEN}
 use Rattle.mxf_index.specs.declared.tags.TheConstants.{ENTRY_SIZE}
 use Rattle.mxf_take_file.specs.Essence.{essence, stream_offsets}
-use Rattle.mxf_take_file.specs.declared.numbers.TheConstants.{HEAD_LEN}
+use Rattle.mxf_take_file.specs.declared.lead.TheConstants.{HEADER_LEN}
 
 -- the body partitions of n units: one begins before every unit whose number is a multiple of part
 unfoldable pub body_count : ℕ → ℕ → ℕ
@@ -19,7 +19,7 @@ segment_bytes n = SEGMENT_LEN + ENTRY_SIZE * n
 -- segment of the units of the one before, and the essence stream
 abbrev pub file_len : ℕ → List (List ℕ) → ℕ
 file_len part units =
-    HEAD_LEN + body_count part (length units) * PACK_LEN + (body_count part (length units) - 1) * segment_bytes part
+    HEADER_LEN + body_count part (length units) * PACK_LEN + (body_count part (length units) - 1) * segment_bytes part
     + length (essence units)
 
 -- what the partitions of a file say of its units: how many there are, where the growing file of the first so many ends,

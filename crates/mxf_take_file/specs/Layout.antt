@@ -1,21 +1,22 @@
 -- The file of a take in edition 1 of its layout (SMPTE ST 377-1, ST 378; layout own). docs/FORMATS.md, "A take's file".
+use Rattle.klv.specs.declared.head.TheConstants.{ELEMENT_HEAD_LEN}
 use Rattle.std.specs.Prelude.{◌≤◌, ℕ, ◌+◌, ◌%◌, ◌==◌, if◌then◌else◌, List, [], ◌++◌, length, Some, None}
 use Rattle.rec_bytes.specs.Configuration.{Fields}
 use Rattle.klv.specs.Items.{klv_head}
-use Rattle.klv.specs.declared.picture.TheConstants.{PICTURE_ELEMENT_KEY}
+use Rattle.mxf_names.specs.declared.keys.TheConstants.{PICTURE_ELEMENT_KEY}
 use Rattle.mxf_partitions.specs.Partitions.{partition_pack}
 use Rattle.mxf_partitions.specs.RandomIndex.{random_index_pack, random_index_size}
 use Rattle.mxf_partitions.specs.declared.partition.TheConstants.{PACK_LEN}
-use Rattle.mxf_metadata.specs.Identifiers.{ids_of}
+use Rattle.mxf_names.specs.Identifiers.{ids_of}
 use Rattle.mxf_metadata.specs.Metadata.{metadata}
-use Rattle.mxf_metadata.specs.declared.labels.TheConstants.{METADATA}
-use Rattle.take_core.specs.declared.place.Place.{Place}
+use Rattle.mxf_metadata.specs.declared.lengths.TheConstants.{METADATA}
+use Rattle.take_layout.specs.declared.place.Place.{Place}
 use Rattle.mxf_take_file.specs.Essence.{essence}
 use Rattle.mxf_take_file.specs.Extents.{Extents, extents, body_count, segment_bytes}
-use Rattle.mxf_take_file.specs.Grown.{grown, lying}
+use Rattle.take_layout.specs.Grown.{grown, lying}
 use Rattle.mxf_take_file.specs.Packs.{header_pack, body_pack, footer_pack, pack_entries}
 use Rattle.mxf_take_file.specs.Segments.{segment_from, whole_first, last_first}
-use Rattle.mxf_take_file.specs.declared.numbers.TheConstants.{MAX_UNIT}
+use Rattle.mxf_take_file.specs.declared.picture_layout.TheConstants.{MAX_UNIT}
 
 -- a unit has at most 2^28 bytes
 abbrev pub is_unit : Fields → List ℕ → Type 0
@@ -60,17 +61,17 @@ growing cfg units = grown (head cfg) (lead cfg) units
 abbrev pub closed : Fields → List (List ℕ) → List ℕ
 closed cfg units = growing cfg units ++ tail cfg units
 
--- where units lie in that file
-abbrev pub places_of : Fields → List (List ℕ) → List Place
-places_of cfg units = lying (head cfg) (lead cfg) units
-
 -- the stream offset of the unit behind others
 abbrev pub stream_of : Fields → List (List ℕ) → ℕ
 stream_of cfg units = length (essence units)
 
+-- where units lie in that file
+abbrev pub places_of : Fields → List (List ℕ) → List Place
+places_of cfg units = lying (stream_of cfg) (head cfg) (lead cfg) units
+
 -- the longest lead: a pack, the index table segment of a whole body partition, and an element's key and length
 abbrev pub lead_most : Fields → ℕ
-lead_most cfg = PACK_LEN + segment_bytes cfg.part + 24
+lead_most cfg = PACK_LEN + segment_bytes cfg.part + ELEMENT_HEAD_LEN
 
 -- a tail with as many index entries as a body partition has, and as many partitions as the take may have
 abbrev pub tail_most : Fields → ℕ

@@ -1,9 +1,9 @@
 pub mod Essence
 pub mod Extents
-pub mod Grown
-pub mod Kept
+pub mod Items
 pub mod Layout
-pub mod Laws
 pub mod Packs
 pub mod Segments
-pub mod Standing
+pub mod Stands
+pub mod inner
+pub mod laws

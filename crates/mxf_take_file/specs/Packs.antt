@@ -3,16 +3,16 @@ use Rattle.std.specs.Prelude.{ℕ, ◌*◌, ◌==◌, if◌then◌else◌, List,
 use Rattle.std.specs.List.{range_with_len}
 use Rattle.rec_bytes.specs.Configuration.{Fields}
 use Rattle.mxf_partitions.specs.declared.partition.Partition.{Partition}
-use Rattle.mxf_partitions.specs.declared.partition.PartitionKind.{PartitionKind}
-use Rattle.mxf_partitions.specs.declared.partition.PartitionKind.TheVariants.{Header, Body, Footer}
-use Rattle.mxf_partitions.specs.declared.partition.PartitionStatus.{PartitionStatus}
-use Rattle.mxf_partitions.specs.declared.partition.PartitionStatus.TheVariants.{OpenIncomplete, ClosedComplete}
-use Rattle.mxf_partitions.specs.declared.partition.TheConstants.{OPERATIONAL_PATTERN, ESSENCE_CONTAINER_LABEL}
+use Rattle.mxf_names.specs.declared.partition_keys.PartitionKind.{PartitionKind}
+use Rattle.mxf_names.specs.declared.partition_keys.PartitionKind.TheVariants.{Header, Body, Footer}
+use Rattle.mxf_names.specs.declared.partition_keys.PartitionStatus.{PartitionStatus}
+use Rattle.mxf_names.specs.declared.partition_keys.PartitionStatus.TheVariants.{OpenIncomplete, ClosedComplete}
+use Rattle.mxf_names.specs.declared.labels.TheConstants.{OPERATIONAL_PATTERN_1A, ESSENCE_CONTAINER_LABEL}
 use Rattle.mxf_partitions.specs.declared.random_index.PackEntry.{PackEntry}
-use Rattle.mxf_metadata.specs.declared.labels.TheConstants.{METADATA}
+use Rattle.mxf_metadata.specs.declared.lengths.TheConstants.{METADATA}
 use Rattle.mxf_take_file.specs.Extents.{Extents, body_count}
 use Rattle.mxf_take_file.specs.Segments.{segment_from, whole_first, last_first, pack_before}
-use Rattle.mxf_index.specs.declared.tags.TheConstants.{ESSENCE_STREAM, INDEX_STREAM}
+use Rattle.mxf_names.specs.declared.streams.TheConstants.{ESSENCE_STREAM, INDEX_STREAM}
 
 -- a pack of a partition at 0 that has neither metadata nor index tables nor essence
 abbrev pub bare_pack : PartitionKind → PartitionStatus → Partition
@@ -30,7 +30,7 @@ bare_pack kind status = record {
   index_sid = 0;
   body_offset = 0;
   body_sid = 0;
-  pattern = OPERATIONAL_PATTERN;
+  pattern = OPERATIONAL_PATTERN_1A;
   label_count = 1;
   label = ESSENCE_CONTAINER_LABEL;
 }

@@ -1,7 +1,7 @@
 -- The index table segments of a take's file (SMPTE ST 377-1). docs/FORMATS.md, "A take's file".
 use Rattle.std.specs.Prelude.{ℕ, ◌-◌, ◌*◌, ◌==◌, if◌then◌else◌, List, [], ◌∷◌, drop}
 use Rattle.rec_bytes.specs.Configuration.{Fields}
-use Rattle.mxf_metadata.specs.Identifiers.{ids_of}
+use Rattle.mxf_names.specs.Identifiers.{ids_of}
 use Rattle.mxf_index.specs.Segments.{index_segment}
 use Rattle.mxf_take_file.specs.Extents.{Extents, body_count, segment_bytes}
 

@@ -1,20 +1,22 @@
 //! What the places that are kept of the units tell.
 
 ghost use Rattle.std.specs.Prelude.{◌≡◌, ◌≤◌, ◌+◌, length, take};
-ghost use Rattle.mxf_take_file.specs.Kept.{AreSmall, IsSmall, end_behind, total_behind};
-ghost use Rattle.mxf_take_file.specs.declared.numbers.TheConstants.{HEAD_LEN};
+ghost use Rattle.klv.specs.declared.head.TheConstants.{ELEMENT_HEAD_LEN};
+ghost use Rattle.mxf_take_file.specs.inner.Kept.{AreSmall, IsSmall, end_behind, total_behind};
+ghost use Rattle.mxf_take_file.specs.declared.lead.TheConstants.{HEADER_LEN};
 
-use crate::numbers::HEAD_LEN;
-use take_core::Place;
+use crate::lead::HEADER_LEN;
+use klv::ELEMENT_HEAD_LEN;
+use take_layout::Place;
 
 /// Where the growing file of the first units ends.
 pub fn end_of(places: &[Place], count: usize) -> u64
     requires within { count ≤ length places.now }
     requires small { AreSmall places.now }
-    ensures { result ≡ end_behind HEAD_LEN (take count places.now) }
+    ensures { result ≡ end_behind HEADER_LEN (take count places.now) }
 {
     if count == 0 {
-        return HEAD_LEN;
+        return HEADER_LEN;
     }
     place_end(&places[count - 1])
 }
@@ -39,7 +41,7 @@ pub fn total_of(places: &[Place]) -> u64
 
 fn stream_end(place: &Place) -> u64
     requires { IsSmall place.now }
-    ensures { result ≡ place.now.stream + (24 + place.now.len) }
+    ensures { result ≡ place.now.stream + (ELEMENT_HEAD_LEN + place.now.len) }
 {
-    place.stream + (24 + place.len)
+    place.stream + (ELEMENT_HEAD_LEN as u64 + place.len)
 }

@@ -1,17 +1,27 @@
 //! Head and leads.
 
 ghost use Rattle.std.specs.Prelude.{◌≡◌, ◌+◌, ◌≤◌, ◌<◌, ◌^◌, ◌%◌, ◌==◌, [], if◌then◌else◌, length};
+ghost use Rattle.klv.specs.declared.head.TheConstants.{ELEMENT_HEAD_LEN};
 ghost use Rattle.rec_bytes.specs.Places.{with_bytes};
 ghost use Rattle.rec_bytes.specs.Ranges.{IsInRange};
 ghost use Rattle.rec_bytes.specs.Views.{view};
-ghost use Rattle.mxf_take_file.specs.Kept.{AreSmall, extents_kept};
+ghost use Rattle.rec_bytes.specs.declared.config_fields.TheConstants.{MAX_PART};
+ghost use Rattle.mxf_partitions.specs.declared.partition.TheConstants.{PACK_LEN};
+ghost use Rattle.mxf_take_file.specs.Extents.{segment_bytes};
+ghost use Rattle.mxf_take_file.specs.declared.picture_layout.TheConstants.{MAX_UNIT};
+ghost use Rattle.mxf_take_file.specs.inner.Kept.{AreSmall, extents_kept};
 ghost use Rattle.mxf_take_file.specs.Layout.{head, body_start, lead_of, start_of};
 
 use crate::packs::{body_pack, header_pack, segment_size, whole_first};
 use crate::put::{put_element_head, put_pack, put_segment_from, put_sets};
+use klv::ELEMENT_HEAD_LEN;
+use mxf_metadata::METADATA;
 use mxf_partitions::PACK_LEN;
 use rec_bytes::Config;
-use take_core::Place;
+use take_layout::Place;
+
+/// Bytes of the head: the pack and the metadata of the header partition.
+pub const HEADER_LEN: u64 = (PACK_LEN + METADATA) as u64;
 
 /// Writes the head.
 pub fn put_head(cfg: &Config, out: &mut [u8])
@@ -27,7 +37,7 @@ pub fn put_head(cfg: &Config, out: &mut [u8])
 fn body_start_len(cfg: &Config, places: &[Place]) -> u64
     requires range { IsInRange (view cfg.now) }
     ensures size { result ≡ length (body_start (view cfg.now) (extents_kept places.now)) }
-    ensures few { result ≤ 22264 }
+    ensures few { result ≤ PACK_LEN + segment_bytes MAX_PART }
 {
     PACK_LEN as u64 + segment_size(places.len() - whole_first(cfg, places))
 }
@@ -61,19 +71,19 @@ fn put_start(cfg: &Config, places: &[Place], out: &mut [u8]) -> usize
 /// Bytes of the lead of a unit behind those at the places.
 pub fn lead_len(cfg: &Config, places: &[Place]) -> u64
     requires range { IsInRange (view cfg.now) }
-    ensures { result ≡ length (start_of (view cfg.now) (extents_kept places.now)) + 24 }
+    ensures { result ≡ length (start_of (view cfg.now) (extents_kept places.now)) + ELEMENT_HEAD_LEN }
 {
     if places.len() % usize::from(cfg.part) != 0 {
-        return 24;
+        return ELEMENT_HEAD_LEN as u64;
     }
-    body_start_len(cfg, places) + 24
+    body_start_len(cfg, places) + ELEMENT_HEAD_LEN as u64
 }
 
 /// Writes the lead of a unit behind those at the places.
 pub fn put_lead(cfg: &Config, places: &[Place], unit_len: u64, out: &mut [u8])
     requires range { IsInRange (view cfg.now) }
     requires small { AreSmall places.now }
-    requires unit { unit_len ≤ 2 ^ 28 }
+    requires unit { unit_len ≤ MAX_UNIT }
     requires room { length out.old ≡ length (lead_of (view cfg.now) (extents_kept places.now) unit_len) }
     ensures { out.new ≡ lead_of (view cfg.now) (extents_kept places.now) unit_len }
 {

@@ -3,19 +3,19 @@
 ghost use Rattle.std.specs.Prelude.{◌≡◌, ◌≤◌, ◌*◌, length};
 ghost use Rattle.rec_bytes.specs.Ranges.{IsInRange};
 ghost use Rattle.rec_bytes.specs.Views.{view};
-ghost use Rattle.mxf_take_file.specs.Kept.{AreSmall, extents_kept};
+ghost use Rattle.mxf_take_file.specs.inner.Kept.{AreSmall, extents_kept};
 ghost use Rattle.mxf_take_file.specs.Packs.{bare_pack, header_pack, body_pack, footer_pack, index_stream};
 ghost use Rattle.mxf_take_file.specs.Segments.{whole_first, last_first, pack_before, segment_size};
-ghost use Rattle.mxf_take_file.specs.Extents.{body_count};
+ghost use Rattle.mxf_take_file.specs.Extents.{body_count, segment_bytes};
+ghost use Rattle.rec_bytes.specs.declared.config_fields.TheConstants.{MAX_PART};
 
 use crate::kept::{end_of, total_of};
-use mxf_index::{ESSENCE_STREAM, INDEX_STREAM, segment_len};
+use mxf_index::segment_len;
 use mxf_metadata::METADATA;
-use mxf_partitions::{
-    ESSENCE_CONTAINER_LABEL, OPERATIONAL_PATTERN, Partition, PartitionKind, PartitionStatus,
-};
+use mxf_names::{ESSENCE_CONTAINER_LABEL, ESSENCE_STREAM, INDEX_STREAM, OPERATIONAL_PATTERN_1A};
+use mxf_partitions::{Partition, PartitionKind, PartitionStatus};
 use rec_bytes::Config;
-use take_core::Place;
+use take_layout::Place;
 
 /// How many body partitions so many units have.
 pub fn body_count(part: u16, count: usize) -> usize
@@ -60,9 +60,9 @@ fn pack_before(places: &[Place], first: usize) -> u64
 
 /// Bytes of an index table segment of so many entries, which there isn't where there are none.
 pub fn segment_size(entries: usize) -> u64
-    requires { entries ≤ 2000 }
+    requires { entries ≤ MAX_PART }
     ensures size { result ≡ segment_size entries }
-    ensures few { result ≤ 22140 }
+    ensures few { result ≤ segment_bytes MAX_PART }
 {
     if entries == 0 {
         return 0;
@@ -93,7 +93,7 @@ fn bare_pack(kind: PartitionKind, status: PartitionStatus) -> Partition
         index_sid: 0,
         body_offset: 0,
         body_sid: 0,
-        pattern: OPERATIONAL_PATTERN,
+        pattern: OPERATIONAL_PATTERN_1A,
         label_count: 1,
         label: ESSENCE_CONTAINER_LABEL,
     }

@@ -2,24 +2,29 @@
 
 ghost use Rattle.std.specs.Prelude.{◌≡◌, ◌+◌, ◌-◌, ◌≤◌, ◌<◌, ◌^◌, ℕ, Option, length, take, drop, map, IfSome};
 ghost use Rattle.klv.specs.Items.{klv_head};
-ghost use Rattle.klv.specs.declared.picture.TheConstants.{PICTURE_ELEMENT_KEY};
+ghost use Rattle.klv.specs.declared.head.TheConstants.{ELEMENT_HEAD_LEN};
+ghost use Rattle.mxf_names.specs.declared.keys.TheConstants.{PICTURE_ELEMENT_KEY};
 ghost use Rattle.rec_bytes.specs.Places.{with_bytes};
 ghost use Rattle.rec_bytes.specs.Ranges.{IsInRange};
 ghost use Rattle.rec_bytes.specs.Views.{view};
-ghost use Rattle.mxf_metadata.specs.Identifiers.{ids_of};
+ghost use Rattle.mxf_names.specs.Identifiers.{ids_of};
 ghost use Rattle.mxf_metadata.specs.Metadata.{metadata};
+ghost use Rattle.mxf_metadata.specs.declared.lengths.TheConstants.{METADATA};
+ghost use Rattle.rec_bytes.specs.declared.config_fields.TheConstants.{MAX_PART};
+ghost use Rattle.mxf_take_file.specs.declared.picture_layout.TheConstants.{MAX_UNIT};
 ghost use Rattle.mxf_partitions.specs.Partitions.{partition_pack};
 ghost use Rattle.mxf_partitions.specs.declared.partition.TheConstants.{PACK_LEN};
-ghost use Rattle.mxf_take_file.specs.Kept.{AreSmall, extents_kept};
+ghost use Rattle.mxf_take_file.specs.inner.Kept.{AreSmall, extents_kept};
 ghost use Rattle.mxf_take_file.specs.Segments.{segment_from};
-ghost use Rattle.take_core.specs.declared.place.Place.{Place};
+ghost use Rattle.take_layout.specs.declared.place.Place.{Place};
 
-use klv::{Form, PICTURE_ELEMENT_KEY, put_klv_head};
+use klv::{Form, put_klv_head_at};
 use mxf_index::put_segment;
-use mxf_metadata::{Ids, METADATA, put_metadata};
+use mxf_metadata::put_metadata;
+use mxf_names::{Ids, PICTURE_ELEMENT_KEY};
 use mxf_partitions::{PACK_LEN, Partition, put_partition};
-use rec_bytes::{Config, put_bytes};
-use take_core::Place;
+use rec_bytes::{Config, MAX_PART, put_bytes};
+use take_layout::Place;
 
 /// Writes the pack of a partition, and answers the place behind.
 pub fn put_pack(pack: &Partition, out: &mut [u8], at: usize) -> usize
@@ -37,8 +42,8 @@ pub fn put_pack(pack: &Partition, out: &mut [u8], at: usize) -> usize
 /// Writes the header metadata, and answers the place behind.
 pub fn put_sets(cfg: &Config, frames: Option<u64>, out: &mut [u8], at: usize) -> usize
     requires few { IfSome frames (λ n. n < 2 ^ 63) }
-    requires room { at + 3165 ≤ length out.old }
-    ensures behind { result ≡ at + 3165 }
+    requires room { at + METADATA ≤ length out.old }
+    ensures behind { result ≡ at + METADATA }
     ensures written { out.new ≡ with_bytes out.old at (metadata (view cfg.now) (ids_of (view cfg.now)) frames) }
 {
     let ids = Ids::new(cfg);
@@ -47,11 +52,11 @@ pub fn put_sets(cfg: &Config, frames: Option<u64>, out: &mut [u8], at: usize) ->
 
 /// Writes the key and the length of a picture element.
 pub fn put_element_head(unit_len: u64, out: &mut [u8], at: usize)
-    requires small { unit_len ≤ 2 ^ 28 }
-    requires room { at + 24 ≤ length out.old }
+    requires small { unit_len ≤ MAX_UNIT }
+    requires room { at + ELEMENT_HEAD_LEN ≤ length out.old }
     ensures written { out.new ≡ with_bytes out.old at (klv_head PICTURE_ELEMENT_KEY 7 unit_len) }
 {
-    put_klv_head(&PICTURE_ELEMENT_KEY, unit_len, Form::Seven, &mut out[at..]);
+    put_klv_head_at(&PICTURE_ELEMENT_KEY, unit_len, Form::Seven, out, at);
 }
 
 /// Writes the index table segment of the units from a number on, and answers the place behind. Where there are no
@@ -64,7 +69,7 @@ pub fn put_segment_from(
     at: usize,
 ) -> usize
     requires within { first ≤ length places.now }
-    requires few { length places.now - first ≤ 2000 }
+    requires few { length places.now - first ≤ MAX_PART }
     requires small { AreSmall places.now }
     requires room { at + length (segment_from (view cfg.now) (extents_kept places.now) first) ≤ length out.old }
     ensures behind { result ≡ at + length (segment_from (view cfg.now) (extents_kept places.now) first) }
@@ -73,7 +78,7 @@ pub fn put_segment_from(
     if first == places.len() {
         return at;
     }
-    let mut streams = [0u64; 2000];
+    let mut streams = [0u64; MAX_PART as usize];
     let count = gather(places, first, &mut streams);
     let ids = Ids::new(cfg);
     at + put_segment(cfg, &ids, first as u64, &streams[..count], &mut out[at..])

@@ -6,22 +6,23 @@ ghost use Rattle.rec_bytes.specs.Places.{with_bytes};
 ghost use Rattle.rec_bytes.specs.Ranges.{IsInRange};
 ghost use Rattle.rec_bytes.specs.Views.{view};
 ghost use Rattle.mxf_partitions.specs.RandomIndex.{random_index_pack, entry_bytes};
+ghost use Rattle.mxf_partitions.specs.declared.random_index.TheConstants.{PACK_ENTRY_LEN};
 ghost use Rattle.mxf_take_file.specs.Extents.{body_count};
-ghost use Rattle.mxf_take_file.specs.Kept.{AreSmall, extents_kept};
+ghost use Rattle.mxf_take_file.specs.inner.Kept.{AreSmall, extents_kept};
 ghost use Rattle.mxf_take_file.specs.Layout.{tail_of};
 ghost use Rattle.mxf_take_file.specs.Packs.{body_entries, pack_entries};
 
 use crate::kept::end_of;
 use crate::packs::{body_count, footer_pack, last_first, segment_size};
 use crate::put::{put_pack, put_segment_from, put_sets};
-use mxf_index::ESSENCE_STREAM;
 use mxf_metadata::METADATA;
+use mxf_names::ESSENCE_STREAM;
 use mxf_partitions::{
     PACK_LEN, PackEntry, put_pack_entry, put_random_index_end, put_random_index_head,
     random_index_len,
 };
 use rec_bytes::Config;
-use take_core::Place;
+use take_layout::Place;
 
 /// Bytes of the tail behind the units at the places.
 pub fn tail_len(cfg: &Config, places: &[Place]) -> u64
@@ -72,8 +73,8 @@ fn put_bodies(part: u16, places: &[Place], bodies: usize, out: &mut [u8], at: us
     requires some { 1 ≤ part }
     requires small { AreSmall places.now }
     requires all { bodies ≡ body_count part (length places.now) }
-    requires room { at + 12 * bodies ≤ length out.old }
-    ensures behind { result ≡ at + 12 * bodies }
+    requires room { at + PACK_ENTRY_LEN * bodies ≤ length out.old }
+    ensures behind { result ≡ at + PACK_ENTRY_LEN * bodies }
     ensures written { out.new ≡ with_bytes out.old at (flat_map entry_bytes (body_entries part (extents_kept places.now) bodies)) }
 {
     let mut end = at;

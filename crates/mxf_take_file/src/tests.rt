@@ -1,28 +1,30 @@
 //! Rows: lengths and single fields, worked out by hand from docs/FORMATS.md, "A take's file".
 
 ghost use Rattle.std.specs.Prelude.{◌≡◌, ◌≤◌, ◌^◌, length};
-ghost use Rattle.mxf_take_file.specs.Kept.{AreSmall};
+ghost use Rattle.mxf_take_file.specs.inner.Kept.{AreSmall};
 
-use crate::layout::PictureLayout;
 use crate::lead::{lead_len, put_lead};
+use crate::picture_layout::PictureLayout;
 use crate::tail::{put_tail, tail_len};
 use crate::walk::look;
-use klv::PICTURE_ELEMENT_KEY;
+use mxf_names::PICTURE_ELEMENT_KEY;
 use rec_bytes::{Config, read_config, take_u32, take_u64};
 use std::alloc::{AllocError, Global};
-use take_core::{Place, TakeLayout, Walk};
+use take_layout::{Place, TakeLayout, Walk};
 
-/// The spelling of a configuration of 16 by 16 pictures with so many frames in a body partition.
-fn spelling(part: u8) -> [u8; 64] {
+/// The spelling of a configuration of 16 by 16 pictures, 24,000 in 1,001 seconds, with so many frames in a body partition
+/// and the bytes 1 to 16 as the take's identifier.
+pub fn spelling(part: u8) -> [u8; 64] {
     let mut bytes = [0u8; 64];
     let start = [
-        0, 16, 0, 16, 0, 3, 3, 1, 1, 1, 3, 1, 16, 1, 2, 0, 0, 96, 0, part, 0, 0, 0, 200, 0, 8,
+        0, 16, 0, 16, 0, 1, 3, 1, 1, 1, 3, 1, 16, 1, 2, 0, 0, 96, 0, part, 0, 0, 0, 200, 0, 8,
     ];
     bytes[..26].copy_from_slice(&start);
+    bytes[32..48].copy_from_slice(&[1, 2, 3, 4, 5, 6, 7, 8, 9, 10, 11, 12, 13, 14, 15, 16]);
     bytes
 }
 
-fn lead_bytes(
+pub fn lead_bytes(
     alloc: Global,
     cfg: &Config,
     places: &[Place],
@@ -37,7 +39,14 @@ fn lead_bytes(
     Ok(out)
 }
 
-fn tail_bytes(alloc: Global, cfg: &Config, places: &[Place]) -> Result<Vec<u8>, AllocError>
+pub fn head_bytes(alloc: Global, cfg: &Config) -> Result<Vec<u8>, AllocError> {
+    cfg.ranges();
+    let mut out = vec![in alloc; 0u8; PictureLayout::head_len(cfg) as usize]?;
+    PictureLayout::put_head(cfg, &mut out);
+    Ok(out)
+}
+
+pub fn tail_bytes(alloc: Global, cfg: &Config, places: &[Place]) -> Result<Vec<u8>, AllocError>
     requires small { AreSmall places.now }
 {
     cfg.ranges();
@@ -47,12 +56,12 @@ fn tail_bytes(alloc: Global, cfg: &Config, places: &[Place]) -> Result<Vec<u8>, 
 }
 
 /// The first bytes, so many or as many as there are.
-fn front(bytes: &[u8], count: usize) -> &[u8] {
+pub fn front(bytes: &[u8], count: usize) -> &[u8] {
     &bytes[..bytes.len().min(count)]
 }
 
 /// The bytes behind the first.
-fn behind(bytes: &[u8], count: usize) -> &[u8] {
+pub fn behind(bytes: &[u8], count: usize) -> &[u8] {
     &bytes[bytes.len().min(count)..]
 }
 

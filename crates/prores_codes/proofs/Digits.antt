@@ -4,7 +4,7 @@ use Rattle.std.proofs.Math.Nat.{pow-le-pow_right, pow-suc, one-mul, zero-mul, ze
 use Rattle.std.proofs.lemmas.Nat.{pow_pos, pow-add, leading_length, le-div, shr_below, mod_below}
 use Rattle.std.proofs.lemmas.Bool.{cases_lt, cases_order}
 use Rattle.bit_io.specs.Bits.{bits, zeros}
-use Rattle.bit_io.specs.Laws.{bits-add, bits-cat, bits-mod, bits-zero}
+use Rattle.bit_io.specs.laws.BitLaws.{bits-add, bits-cat, bits-mod, bits-zero}
 use Rattle.prores_codes.specs.Codes.{HasDigits}
 
 pub pow_le : (i j : ℕ) → i ≤ j → 2 ^ i ≤ 2 ^ j

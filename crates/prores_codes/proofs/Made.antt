@@ -4,10 +4,10 @@ use Rattle.std.proofs.Math.Nat.{add_assoc, div-eq_of_lt}
 use Rattle.std.proofs.lemmas.Nat.{pow_pos, pow-add, div_below, mod_below, shr_high, mod_low, le-div, shr_below, mul-le, leading_length}
 use Rattle.std.proofs.lemmas.Bool.{cases_lt}
 use Rattle.bit_io.specs.Bits.{bits, zeros}
-use Rattle.bit_io.specs.Laws.{length-bits}
+use Rattle.bit_io.specs.laws.BitLaws.{length-bits}
 use Rattle.prores_codes.specs.declared.code.Code.{Code}
 use Rattle.prores_codes.specs.Codes.{HasDigits, Spells, IsShort, IsLong, Fits, short_count, long_number}
-use Rattle.prores_codes.specs.Forms.{IsForm, IsFound, many_zeros}
+use Rattle.prores_codes.specs.inner.Forms.{IsForm, IsFound, many_zeros}
 use Rattle.prores_codes.proofs.Digits.{digits_from_leading, digits_most, pow_le, digits_same, digits_more, numbered, short_bits}
 use Rattle.prores_codes.proofs.Spelled.{short_length, long_length}
 

@@ -3,10 +3,10 @@ use Rattle.std.proofs.lemmas.List.{length-append, take_at, take-append-drop, app
 use Rattle.std.proofs.lemmas.Bool.{cases_lt}
 use Rattle.bit_io.specs.Bits.{bits, zeros}
 use Rattle.bit_io.specs.Read.{Reading, Takes}
-use Rattle.bit_io.specs.Laws.{bits-add, bits-zero, length-bits, length-zeros}
+use Rattle.bit_io.specs.laws.BitLaws.{bits-add, bits-zero, length-bits, length-zeros}
 use Rattle.prores_codes.specs.declared.code.Code.{Code}
 use Rattle.prores_codes.specs.Codes.{Spells}
-use Rattle.prores_codes.specs.Forms.{IsFound, many_zeros}
+use Rattle.prores_codes.specs.inner.Forms.{IsFound, many_zeros}
 use Rattle.prores_codes.specs.Spellings.{IsTooLong}
 use Rattle.prores_codes.proofs.Spelled.{one_spelling, not_too_long}
 

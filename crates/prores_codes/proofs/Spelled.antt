@@ -2,7 +2,7 @@ use Rattle.std.proofs.Common.{◌≡◌, ℕ, zero, suc, ◌+◌, ◌-◌, ◌*�
 use Rattle.std.proofs.lemmas.List.{length-append, append_assoc}
 use Rattle.std.proofs.lemmas.Nat.{pow_pos, div_below, shr_split, mod_below}
 use Rattle.bit_io.specs.Bits.{bits, zeros}
-use Rattle.bit_io.specs.Laws.{bits-mod, bits-same, length-bits, length-zeros, same_parts}
+use Rattle.bit_io.specs.laws.BitLaws.{bits-mod, bits-same, length-bits, length-zeros, same_parts}
 use Rattle.prores_codes.specs.declared.code.Code.{Code}
 use Rattle.prores_codes.specs.Codes.{Spells, IsShort, IsLong, long_number}
 use Rattle.prores_codes.proofs.Digits.{digits_more, highest_digit}

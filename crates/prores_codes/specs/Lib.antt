@@ -1,9 +1,9 @@
 pub mod Choices
 pub mod Codes
 pub mod Folded
-pub mod Forms
 pub mod Spellings
+pub mod inner
 pub use Rattle.bit_io.specs.Bits
-pub use Rattle.bit_io.specs.Laws
 pub use Rattle.bit_io.specs.Read
 pub use Rattle.bit_io.specs.Written
+pub use Rattle.bit_io.specs.laws.BitLaws

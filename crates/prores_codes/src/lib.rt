@@ -11,17 +11,17 @@
 //! Not promised: spellings of more than 32 bits, which are neither written nor read.
 #![tactic(auto)]
 
-mod choice;
+mod choices;
 mod code;
 mod fault;
-mod form;
-mod law;
-mod signed;
-mod spelling;
+mod folded;
+mod forms;
+mod laws;
+mod spellings;
 
-pub use choice::{dc_code, first_code, level_code, run_code};
+pub use choices::{dc_code, first_code, level_code, run_code};
 pub use code::Code;
 pub use fault::CodeFault;
-pub use law::spellings_are_apart;
-pub use signed::{fold, unfold};
-pub use spelling::{fits, read, small_fits, write};
+pub use folded::{fold, unfold};
+pub use laws::spellings_are_apart;
+pub use spellings::{fits, read, small_fits, write};

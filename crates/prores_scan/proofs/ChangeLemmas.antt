@@ -1,4 +1,4 @@
--- How far apart levels are, from specs/HalfSteps.antt.
+-- How far apart levels are, from specs/ScaledLevels.antt.
 use Rattle.std.proofs.Common.{◌≡◌, ℕ, ◌+◌, ◌-◌, ◌*◌, ◌/◌, ◌^◌, ◌<◌, ◌≤◌, sym, ap, ap₂, ◌∙◌, arith, pos, negsuc, ◌-ℤ◌, ⊎_elim}
 use Rattle.std.specs.Prelude.{ℤ}
 use Rattle.std.specs.Int.RustNames.{unsigned_abs}
@@ -7,7 +7,7 @@ use Rattle.std.proofs.lemmas.Bool.{cases_lt}
 use Rattle.std.proofs.lemmas.Nat.{div-add-mod', mod_below, div_below}
 use Rattle.std.proofs.Math.Nat.{add-mul, mul-le-mul_right}
 use Rattle.prores_scan.specs.Levels.{step_of, with_sign_of, nearest_quotient}
-use Rattle.prores_scan.specs.HalfSteps.{signed_of, AreApart}
+use Rattle.prores_scan.specs.ScaledLevels.{signed_of, AreApart}
 use Rattle.prores_scan.proofs.HalfStepLemmas.{nearest_from_half_steps, signed_of-sign_last}
 
 -- how far apart two sizes with signs are, from the sizes

@@ -1,4 +1,4 @@
--- Lemmas on specs.HalfSteps.antt.
+-- Lemmas on specs/HalfSteps.antt and specs/ScaledLevels.antt.
 use Rattle.std.proofs.Common.{◌≡◌, ℕ, ◌+◌, ◌-◌, ◌*◌, ◌/◌, ◌%◌, ◌^◌, ◌≤◌, refl, sym, ap, ◌∙◌, arith, pos, negsuc}
 use Rattle.std.specs.Prelude.{ℤ, Bool, true, false}
 use Rattle.std.specs.Int.Signed.{lt_z}
@@ -8,7 +8,8 @@ use Rattle.std.specs.Int.RustNames.{unsigned_abs}
 use Rattle.std.proofs.Math.Nat.{mul_assoc, mul_left_comm, add-mul, le-div_iff_mul-le, div-div-eq-div-mul, add-mul-div_left}
 use Rattle.prores_scan.specs.Levels.{step_of, with_sign_of, nearest_quotient, level_of}
 use Rattle.prores_scan.proofs.LevelLemmas.{abs-with_sign_of}
-use Rattle.prores_scan.specs.HalfSteps.{is_minus, sign_last, signed_of, half_steps_of, IsThreshold}
+use Rattle.prores_scan.specs.HalfSteps.{is_minus, sign_last, half_steps_of}
+use Rattle.prores_scan.specs.ScaledLevels.{signed_of, IsThreshold}
 
 -- the rounded quotient comes from the half steps, cut to a whole number
 pub nearest_from_half_steps : (size weight scale : ℕ) → 1 ≤ weight

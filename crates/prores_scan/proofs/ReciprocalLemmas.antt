@@ -1,4 +1,4 @@
--- Lemmas on specs/Reciprocals.antt.
+-- Lemmas on specs/inner/Reciprocals.antt.
 use Rattle.std.proofs.Common.{◌≡◌, ℕ, ◌+◌, ◌-◌, ◌*◌, ◌/◌, ◌%◌, ◌^◌, ◌<◌, ◌≤◌, sym, ap, ◌∙◌, arith, subst, ⊎_elim, add-one}
 use Rattle.std.proofs.lemmas.Nat.{pow-add, shr-shr, div-add-mod', mod_below, div_below, pow_below, pow_pos, leading_top}
 use Rattle.std.proofs.lemmas.Bool.{cases_lt, cases_order}
@@ -6,7 +6,7 @@ use Rattle.std.proofs.Math.Nat.{mul_assoc, mul_comm, mul-add, add-mul, mul-le-mu
 use Rattle.std.specs.Int.Count.{count_leading_zeros}
 use Rattle.std.proofs.lemmas.Nat.{mul-le}
 use Rattle.std.proofs.Math.Nat.{div-div-eq-div-mul}
-use Rattle.prores_scan.specs.Reciprocals.{IsReciprocal, IsFactor}
+use Rattle.prores_scan.specs.inner.Reciprocals.{IsReciprocal, IsFactor}
 
 -- a factor a little above a power over the divisor gives the quotient of each number that it is not too far above for
 pub quotient_from : (x divisor factor power : ℕ) → 0 < divisor → power ≤ factor * divisor → factor * divisor < power + divisor

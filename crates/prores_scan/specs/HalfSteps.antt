@@ -1,7 +1,6 @@
--- Half steps, from which the level of a coefficient comes at any scale (own). docs/FORMATS.md, "Quantiser".
-use Rattle.std.specs.Prelude.{◌≡◌, ◌<◌, ◌≤◌, ◌+◌, ◌*◌, ◌/◌, ◌%◌, ◌^◌, ◌==◌, ◌↔◌, ℕ, ℤ, Bool, true, false, length, List, pos, negsuc, neg_ℤ, ◌-ℤ◌, slice_index, slice_index_or, if◌then◌else◌}
+-- Half steps: sizes of coefficients in 2^25 times the weight, with their signs (own). docs/FORMATS.md, "Quantiser".
+use Rattle.std.specs.Prelude.{◌≡◌, ◌<◌, ◌≤◌, ◌+◌, ◌*◌, ◌/◌, ◌^◌, ℕ, ℤ, Bool, true, false, length, List, pos, negsuc, slice_index, slice_index_or}
 use Rattle.std.specs.Int.RustNames.{unsigned_abs}
-use Rattle.prores_scan.specs.Levels.{level_of}
 
 -- whether a number is below 0
 abbrev pub is_minus : ℤ → Bool
@@ -12,10 +11,6 @@ is_minus (negsuc n) = true
 abbrev pub sign_last : ℤ → ℕ → ℕ
 sign_last (pos n) size = 2 * size
 sign_last (negsuc n) size = 2 * size + 1
-
--- the number that a size with a sign as its last bit means
-abbrev pub signed_of : ℕ → ℤ
-signed_of number = if number % 2 == 0 then pos (number / 2) else neg_ℤ (pos (number / 2))
 
 -- the whole half steps of a coefficient, 2 ^ 25 times the weight each, with its sign as the last bit
 abbrev pub half_steps_of : ℤ → ℕ → ℕ
@@ -38,23 +33,3 @@ AreHalfSteps gs weights half_steps =
 -- all are below 2 ^ 15
 abbrev pub AreShort : List ℕ → Type 0
 AreShort half_steps = (k : ℕ) → k < length half_steps → slice_index half_steps k < 2 ^ 15
-
--- the levels at a scale of whatever coefficients have these half steps
-abbrev pub AreLevels : List ℕ → ℕ → List ℕ → Type 0
-AreLevels half_steps scale levels =
-    (k : ℕ) → k < length half_steps → (g : ℤ) (weight : ℕ) → 1 ≤ weight
-    → slice_index half_steps k ≡ half_steps_of g weight
-    → signed_of (slice_index levels k) ≡ level_of g weight scale
-
--- the coefficients from these half steps on are those whose levels at a scale have this size or more
-abbrev pub IsThreshold : ℕ → ℕ → ℕ → Type 0
-IsThreshold size scale half_steps =
-    (g : ℤ) (weight : ℕ) → 1 ≤ weight
-    → (size ≤ unsigned_abs (level_of g weight scale)) ↔ (half_steps ≤ half_steps_of g weight)
-
--- the levels at a scale of two coefficients of one weight with these half steps differ by this much or more
-abbrev pub AreApart : ℕ → ℕ → ℕ → ℕ → Type 0
-AreApart from to scale change =
-    (g h : ℤ) (weight : ℕ) → 1 ≤ weight
-    → from ≡ half_steps_of g weight → to ≡ half_steps_of h weight
-    → change ≤ unsigned_abs (level_of h weight scale -ℤ level_of g weight scale)

@@ -1,6 +1,7 @@
 pub mod Scans
-pub mod Weights
+pub mod WeightsAndScales
 pub mod Levels
 pub mod Products
-pub mod Reciprocals
 pub mod HalfSteps
+pub mod ScaledLevels
+pub mod inner

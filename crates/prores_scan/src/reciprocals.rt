@@ -1,7 +1,7 @@
 //! Division in 16-bit lanes, by multiplication.
 
 ghost use Rattle.std.specs.Prelude.{◌≡◌, ◌≤◌, ◌/◌};
-ghost use Rattle.prores_scan.specs.Reciprocals.{IsReciprocal};
+ghost use Rattle.prores_scan.specs.inner.Reciprocals.{IsReciprocal};
 
 /// A divisor with its reciprocal. A loop that divides by it compiles to multiplications of eight
 /// numbers at a time.

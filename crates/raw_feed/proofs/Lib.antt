@@ -1,9 +1,12 @@
 pub mod BreakLemmas
 pub mod EndingLemmas
 pub mod FeedLemmas
+pub mod HasReadLemmas
 pub mod HeadLemmas
+pub mod KindLemmas
 pub mod Moves
 pub mod PartLemmas
 pub mod ReadingLemmas
 pub mod SplitLemmas
+pub mod TotalLemmas
 pub mod UnitLemmas

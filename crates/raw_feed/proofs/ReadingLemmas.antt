@@ -1,111 +1,171 @@
 -- What the calls of a reader add up to.
-use Rattle.std.proofs.Common.{◌≡◌, ℕ, ◌+◌, ◌≤◌, List, [], ◌++◌, length, take, drop, Bool, true, false, Option, Some, None, Ok, Err, sym, ap, ◌∙◌, subst, arith}
-use Rattle.std.proofs.lemmas.List.{length-drop, length-append}
-use Rattle.std.specs.Bool.{OnTrue}
-use Rattle.std.proofs.Math.Seq.{take-add}
-use Rattle.byteorder.specs.Endian.{big_bytes}
+use Rattle.std.proofs.Common.{arith, ◌≡◌, ℕ, ◌+◌, ◌≤◌, List, [], ◌++◌, length, take, Bool, true, false, Option, Some, None, Ok, Err, refl, sym, ap, ◌∙◌, subst}
+use Rattle.std.specs.Bool.{OnTrue, OnFalse}
 use Rattle.rec_bytes.specs.Configuration.{Fields}
-use Rattle.raw_feed.specs.declared.layout.TheConstants.{UNIT_MARKER, MAX_UNIT, MAX_FEED}
+use Rattle.raw_feed.specs.declared.kind.TheConstants.{MARKER_LEN}
+use Rattle.raw_feed.specs.declared.limits.TheConstants.{MAX_FEED}
+use Rattle.raw_feed.specs.declared.kind.Kind.{Kind}
 use Rattle.raw_feed.specs.declared.fault.FeedFault.{FeedFault}
 use Rattle.raw_feed.specs.declared.fault.FeedFault.TheVariants.{Memory, FeedHead, Marker, FeedCut, SourceFault, TooLong, UnitLong}
 use Rattle.raw_feed.specs.declared.stage.Stage.{Stage}
 use Rattle.raw_feed.specs.declared.stage.Stage.TheVariants.{Open, Marked, Ended, Refused}
 use Rattle.raw_feed.specs.Told.{Told, after}
-use Rattle.raw_feed.specs.Items.{item}
-use Rattle.raw_feed.specs.Refusals.{IsMarkerFault, IsItemFault}
-use Rattle.raw_feed.specs.Parts.{ItemRead}
-use Rattle.raw_feed.specs.Breaks.{Breaks}
-use Rattle.raw_feed.specs.Reading.{Reading, staged, IfTold, GivesUnit, GivesMarker, RefusesItem, RefusesMarker}
-use Rattle.raw_feed.proofs.PartLemmas.{after-after}
+use Rattle.raw_feed.specs.Items.{IsSized, marker, body, item}
+use Rattle.raw_feed.specs.declared.head.TheConstants.{FEED_HEAD_LEN}
+use Rattle.raw_feed.specs.Refusals.{IsHeadFault, IsMarkerFault, IsItemFault, IsFeedFault}
+use Rattle.raw_feed.specs.inner.Parts.{ItemRead}
+use Rattle.raw_feed.specs.Breaks.{Breaks, Gave}
+use Rattle.raw_feed.specs.Reading.{Reading, staged, counted, IfTold, GivesUnit, GivesMarker, RefusesItem, RefusesMarker}
+use Rattle.raw_feed.proofs.KindLemmas.{marker_long}
+use Rattle.raw_feed.proofs.PartLemmas.{Gave-more}
 use Rattle.raw_feed.proofs.BreakLemmas.{Breaks-shift}
-use Rattle.raw_feed.proofs.UnitLemmas.{length-front}
 
-pub length-item : (unit : List ℕ) → length (item unit) ≡ 8 + length unit
-length-item unit =
-    length-append (UNIT_MARKER ++ big_bytes 4 (length unit)) unit ∙ ap (λ (n : ℕ). n + length unit) (length-front (length unit))
+-- the marker that was given, in four bytes
+pub marker_given : (kind : Kind) (before : Told) (now : Option Told) → Gave (marker kind) before now
+    → (take MARKER_LEN before.left ≡ marker kind) × (now ≡ Some (after MARKER_LEN before))
+marker_given kind before now (taken, moved) =
+    let four = marker_long kind in
+    (ap (λ (n : ℕ). take n before.left) (sym four) ∙ taken, moved ∙ ap (λ (n : ℕ). Some (after n before)) four)
 
--- the reader as its fields, with one unit more
-abbrev one_more : Fields → ℕ → ℕ → ℕ → Reading
-one_more config count at len = record { config = config; count = count + 1; at = at + (8 + len); stage = Open }
-
--- the reader behind a unit is the one before it, a unit further
-counted : (config : Fields) (count at len : ℕ) (old : Reading) (unit : List ℕ) → config ≡ old.config → count ≡ old.count → at ≡ old.at → len ≡ length unit
-    → one_more config count at len ≡ record { config = old.config; count = old.count + 1; at = old.at + length (item unit); stage = Open }
-counted config count at len old unit c n a long =
-    let further : at + (8 + len) ≡ old.at + length (item unit) = let l = length-item unit in omega arith in
-    λ i. record { config = c i; count = n i + 1; at = further i; stage = Open }
+-- the reader, as the fields that it has behind a unit
+further : (reading : Reading) (unit : List ℕ) (kind : Kind) (config : Fields) (count at len : ℕ) (stage : Stage)
+    → record { kind = kind; config = config; count = count; at = at; stage = stage } ≡ reading → len ≡ length (item kind unit)
+    → record { kind = kind; config = config; count = count + 1; at = at + len; stage = Open } ≡ counted reading unit
+further reading unit kind config count at len stage is long =
+    ap (λ (n : ℕ). record { kind = kind; config = config; count = count + 1; at = at + n; stage = Open }) long
+    ∙ ap (λ (r : Reading). counted r unit) is
 
 -- an item whose marker was read before or now
-pub GivesUnit-read : (s : Stage) (old mid : Reading) (config : Fields) (count at len : ℕ) (stage : Stage) (told via now : Option Told) (unit : List ℕ) → record { config = config; count = count; at = at; stage = stage } ≡ mid → GivesMarker s old mid told via
-    → length unit ≤ MAX_UNIT → at + 8 + length unit ≤ MAX_FEED → len ≡ length unit → ItemRead at via now (Ok unit) → GivesUnit s old (one_more config count at len) told now unit
-GivesUnit-read Open old mid config count at len stage told via now unit is marked most room long read =
-    let same : record { config = config; count = count; at = at; stage = stage } ≡ staged old Marked = is ∙ marked.0 in
-    (most, (let l = length-item unit in let a = ap (λ (r : Reading). r.at) same in omega arith), counted config count at len old unit (ap (λ (r : Reading). r.config) same) (ap (λ (r : Reading). r.count) same) (ap (λ (r : Reading). r.at) same) long, came told marked.2)
+pub GivesUnit-read : (s : Stage) (old mid : Reading) (kind : Kind) (config : Fields) (count at len : ℕ) (stage : Stage) (told via now : Option Told)
+    (unit : List ℕ)
+    → record { kind = kind; config = config; count = count; at = at; stage = stage } ≡ mid → GivesMarker s old mid told via
+    → IsSized kind unit → at + length (item kind unit) ≤ MAX_FEED → len ≡ length (item kind unit) → ItemRead kind at via now (Ok unit)
+    → GivesUnit s old (record { kind = kind; config = config; count = count + 1; at = at + len; stage = Open }) told now unit
+GivesUnit-read Open old mid kind config count at len stage told via now unit is marked most room long read =
+    let same : record { kind = kind; config = config; count = count; at = at; stage = stage } ≡ staged old Marked = is ∙ marked.0 in
+    let kind_is : kind ≡ old.kind = ap (λ (r : Reading). r.kind) same in
+    let at_is : at ≡ old.at = ap (λ (r : Reading). r.at) same in (
+      subst (λ (k : Kind). IsSized k unit) kind_is most,
+      subst (λ (p : ℕ). p + length (item old.kind unit) ≤ MAX_FEED) at_is (subst (λ (k : Kind). at + length (item k unit) ≤ MAX_FEED) kind_is room),
+      further (staged old Marked) unit kind config count at len stage same long,
+      came told marked.2 (subst (λ (k : Kind). ItemRead k at via now (Ok unit)) kind_is read),
+    )
   where
-    came : (t : Option Told) → IfTold t via (λ before. (take 4 before.left ≡ UNIT_MARKER) × (via ≡ Some (after 4 before))) → IfTold t now (λ before. (n : ℕ) × (n ≤ length before.left) × (take n before.left ≡ item unit) × (now ≡ Some (after n before)))
-    came None none = subst (λ (v : Option Told). ItemRead at v now (Ok unit)) none read
-    came (Some before) (marker, moved) =
-        let rest : ItemRead at (Some (after 4 before)) now (Ok unit) = subst (λ (v : Option Told). ItemRead at v now (Ok unit)) moved read in
-        let n : ℕ = 4 + (4 + length unit) in
-        (n, (let l = length-drop 4 before.left in let r : 4 + length unit ≤ length (drop 4 before.left) = rest.1 in omega arith), take-add 4 (4 + length unit) before.left ∙ (ap (λ (xs : List ℕ). xs ++ take (4 + length unit) (drop 4 before.left)) marker ∙ rest.0), rest.2 ∙ ap Some (after-after 4 (4 + length unit) before))
-GivesUnit-read Marked old mid config count at len stage told via now unit is marked most room long read =
-    let same : record { config = config; count = count; at = at; stage = stage } ≡ old = is ∙ marked.0 in
-    (most, (let l = length-item unit in let a = ap (λ (r : Reading). r.at) same in omega arith), counted config count at len old unit (ap (λ (r : Reading). r.config) same) (ap (λ (r : Reading). r.count) same) (ap (λ (r : Reading). r.at) same) long, came told (subst (λ (v : Option Told). ItemRead at v now (Ok unit)) marked.1 read))
+    came : (t : Option Told) → IfTold t via (λ before. Gave (marker old.kind) before via) → ItemRead old.kind at via now (Ok unit)
+        → IfTold t now (λ before. (rest : List ℕ) × (rest ≡ item old.kind unit) × Gave rest before now)
+    came None none r = subst (λ (v : Option Told). ItemRead old.kind at v now (Ok unit)) none r
+    came (Some before) gave r =
+        let g = marker_given old.kind before via gave in
+        let rest : Gave (body old.kind unit) (after MARKER_LEN before) now = subst (λ (v : Option Told). ItemRead old.kind at v now (Ok unit)) g.1 r in
+        (item old.kind unit, refl, Gave-more MARKER_LEN (marker old.kind) (body old.kind unit) before now (marker_long old.kind) g.0 rest)
+GivesUnit-read Marked old mid kind config count at len stage told via now unit is marked most room long read =
+    let same : record { kind = kind; config = config; count = count; at = at; stage = stage } ≡ old = is ∙ marked.0 in
+    let kind_is : kind ≡ old.kind = ap (λ (r : Reading). r.kind) same in
+    let at_is : at ≡ old.at = ap (λ (r : Reading). r.at) same in (
+      subst (λ (k : Kind). IsSized k unit) kind_is most,
+      subst (λ (p : ℕ). p + length (item old.kind unit) ≤ MAX_FEED) at_is (subst (λ (k : Kind). at + length (item k unit) ≤ MAX_FEED) kind_is room),
+      further old unit kind config count at len stage same long,
+      came told (subst (λ (v : Option Told). ItemRead old.kind at v now (Ok unit)) marked.1
+          (subst (λ (k : Kind). ItemRead k at via now (Ok unit)) kind_is read)),
+    )
   where
-    came : (t : Option Told) → ItemRead at t now (Ok unit) → IfTold t now (λ before. (n : ℕ) × (n ≤ length before.left) × (UNIT_MARKER ++ take n before.left ≡ item unit) × (now ≡ Some (after n before)))
+    came : (t : Option Told) → ItemRead old.kind at t now (Ok unit)
+        → IfTold t now (λ before. (rest : List ℕ) × (marker old.kind ++ rest ≡ item old.kind unit) × Gave rest before now)
     came None none = none
-    came (Some before) rest = (4 + length unit, rest.1, rest.0, rest.2)
-GivesUnit-read Ended old mid config count at len stage told via now unit is marked most room long read = absurd marked
-GivesUnit-read (Refused f) old mid config count at len stage told via now unit is marked most room long read = absurd marked
+    came (Some before) rest = (body old.kind unit, refl, rest)
+GivesUnit-read Ended old mid kind config count at len stage told via now unit is marked most room long read = absurd marked
+GivesUnit-read (Refused f) old mid kind config count at len stage told via now unit is marked most room long read = absurd marked
 
 -- an item that breaks behind its marker
-pub RefusesItem-read : (s : Stage) (old mid : Reading) (config : Fields) (count at : ℕ) (stage : Stage) (told via now : Option Told) (fault : FeedFault) → record { config = config; count = count; at = at; stage = stage } ≡ mid → GivesMarker s old mid told via
-    → IsItemFault fault → ItemRead at via now (Err fault) → RefusesItem s old (record { config = config; count = count; at = at; stage = Refused fault }) told now fault
-RefusesItem-read Open old mid config count at stage told via now fault is marked named read =
-    let same : record { config = config; count = count; at = at; stage = stage } ≡ staged old Marked = is ∙ marked.0 in
-    let place : at ≡ old.at = ap (λ (r : Reading). r.at) same in
-    (named, ap (λ (r : Reading). staged r (Refused fault)) same, broken told marked.2 place)
+pub RefusesItem-read : (s : Stage) (old mid : Reading) (kind : Kind) (config : Fields) (count at : ℕ) (stage : Stage) (told via now : Option Told)
+    (fault : FeedFault)
+    → record { kind = kind; config = config; count = count; at = at; stage = stage } ≡ mid → GivesMarker s old mid told via
+    → IsItemFault at fault → ItemRead kind at via now (Err fault)
+    → RefusesItem s old (record { kind = kind; config = config; count = count; at = at; stage = Refused fault }) told now fault
+RefusesItem-read Open old mid kind config count at stage told via now fault is marked named read =
+    let same : record { kind = kind; config = config; count = count; at = at; stage = stage } ≡ staged old Marked = is ∙ marked.0 in
+    let kind_is : kind ≡ old.kind = ap (λ (r : Reading). r.kind) same in
+    let at_is : at ≡ old.at = ap (λ (r : Reading). r.at) same in
+    let there : ItemRead old.kind old.at via now (Err fault) =
+    subst (λ (p : ℕ). ItemRead old.kind p via now (Err fault)) at_is (subst (λ (k : Kind). ItemRead k at via now (Err fault)) kind_is read) in
+    (subst (λ (p : ℕ). IsItemFault p fault) at_is named, ap (λ (r : Reading). staged r (Refused fault)) same, broken told marked.2 there)
   where
-    broken : (t : Option Told) → IfTold t via (λ before. (take 4 before.left ≡ UNIT_MARKER) × (via ≡ Some (after 4 before))) → at ≡ old.at → IfTold t now (λ before. Breaks false old.at [] before now fault)
-    broken None none place = subst (λ (v : Option Told). ItemRead at v now (Err fault)) none read
-    broken (Some before) (marker, moved) place =
-        let rest : Breaks false at UNIT_MARKER (after 4 before) now fault = subst (λ (v : Option Told). ItemRead at v now (Err fault)) moved read in
-        Breaks-shift false old.at [] 4 before now fault
-        (subst (λ (p : ℕ). Breaks false p (take 4 before.left) (after 4 before) now fault) place
-        (subst (λ (xs : List ℕ). Breaks false at xs (after 4 before) now fault) (sym marker) rest))
-RefusesItem-read Marked old mid config count at stage told via now fault is marked named read =
-    let same : record { config = config; count = count; at = at; stage = stage } ≡ old = is ∙ marked.0 in
-    let place : at ≡ old.at = ap (λ (r : Reading). r.at) same in
-    (named, ap (λ (r : Reading). staged r (Refused fault)) same, broken told (subst (λ (v : Option Told). ItemRead at v now (Err fault)) marked.1 read) place)
+    broken : (t : Option Told) → IfTold t via (λ before. Gave (marker old.kind) before via) → ItemRead old.kind old.at via now (Err fault)
+        → IfTold t now (λ before. Breaks old.kind false old.at [] before now fault)
+    broken None none r = subst (λ (v : Option Told). ItemRead old.kind old.at v now (Err fault)) none r
+    broken (Some before) gave r =
+        let g = marker_given old.kind before via gave in
+        let rest : Breaks old.kind false old.at (marker old.kind) (after MARKER_LEN before) now fault =
+        subst (λ (v : Option Told). ItemRead old.kind old.at v now (Err fault)) g.1 r in
+        Breaks-shift old.kind false old.at [] MARKER_LEN (marker old.kind) before now fault (marker_long old.kind) g.0 rest
+RefusesItem-read Marked old mid kind config count at stage told via now fault is marked named read =
+    let same : record { kind = kind; config = config; count = count; at = at; stage = stage } ≡ old = is ∙ marked.0 in
+    let kind_is : kind ≡ old.kind = ap (λ (r : Reading). r.kind) same in
+    let at_is : at ≡ old.at = ap (λ (r : Reading). r.at) same in
+    let there : ItemRead old.kind old.at via now (Err fault) =
+    subst (λ (p : ℕ). ItemRead old.kind p via now (Err fault)) at_is (subst (λ (k : Kind). ItemRead k at via now (Err fault)) kind_is read) in (
+      subst (λ (p : ℕ). IsItemFault p fault) at_is named,
+      ap (λ (r : Reading). staged r (Refused fault)) same,
+      broken told (subst (λ (v : Option Told). ItemRead old.kind old.at v now (Err fault)) marked.1 there),
+    )
   where
-    broken : (t : Option Told) → ItemRead at t now (Err fault) → at ≡ old.at → IfTold t now (λ before. Breaks false old.at UNIT_MARKER before now fault)
-    broken None none place = none
-    broken (Some before) rest place = subst (λ (p : ℕ). Breaks false p UNIT_MARKER before now fault) place rest
-RefusesItem-read Ended old mid config count at stage told via now fault is marked named read = absurd marked
-RefusesItem-read (Refused f) old mid config count at stage told via now fault is marked named read = absurd marked
+    broken : (t : Option Told) → ItemRead old.kind old.at t now (Err fault)
+        → IfTold t now (λ before. Breaks old.kind false old.at (marker old.kind) before now fault)
+    broken None none = none
+    broken (Some before) rest = rest
+RefusesItem-read Ended old mid kind config count at stage told via now fault is marked named read = absurd marked
+RefusesItem-read (Refused f) old mid kind config count at stage told via now fault is marked named read = absurd marked
 
 -- what holds of a marker that is there
 pub OnTrue-there : (b : Bool) {P : Type 0} → b ≡ true → OnTrue b P → P
 OnTrue-there true e h = h
 OnTrue-there false e h = absurd (cc)
 
+pub OnFalse-there : (b : Bool) {P : Type 0} → b ≡ false → OnFalse b P → P
+OnFalse-there false e h = h
+OnFalse-there true e h = absurd (cc)
+
 -- a refusal of a marker is one of its item
-pub IsItemFault-marker : (fault : FeedFault) → IsMarkerFault fault → IsItemFault fault
-IsItemFault-marker Memory h = tt
-IsItemFault-marker (FeedHead at) h = h
-IsItemFault-marker (Marker at) h = h
-IsItemFault-marker (FeedCut at) h = h
-IsItemFault-marker (SourceFault count) h = h
-IsItemFault-marker (TooLong at) h = h
-IsItemFault-marker (UnitLong at) h = absurd h
+pub IsItemFault-marker : (at : ℕ) (fault : FeedFault) → IsMarkerFault at fault → IsItemFault at fault
+IsItemFault-marker at Memory h = tt
+IsItemFault-marker at (FeedHead place) h = h
+IsItemFault-marker at (Marker place) h = h
+IsItemFault-marker at (FeedCut place) h = (h.0, h.2)
+IsItemFault-marker at (SourceFault count) h = h
+IsItemFault-marker at (TooLong place) h = h.0
+IsItemFault-marker at (UnitLong place) h = absurd h
 
 -- an item is refused where its marker is
-pub RefusesItem-marker : (s : Stage) (old new : Reading) (told now : Option Told) (fault : FeedFault) → RefusesMarker s old new told now fault → RefusesItem s old new told now fault
-RefusesItem-marker Open old new told now fault (named, is, broken) = (IsItemFault-marker fault named, is, for_one told broken)
+pub RefusesItem-marker : (s : Stage) (old new : Reading) (told now : Option Told) (fault : FeedFault)
+    → RefusesMarker s old new told now fault → RefusesItem s old new told now fault
+RefusesItem-marker Open old new told now fault (named, is, broken) = (IsItemFault-marker old.at fault named, is, for_one told broken)
   where
-    for_one : (t : Option Told) → IfTold t now (λ before. (full : Bool) → Breaks full old.at [] before now fault) → IfTold t now (λ before. Breaks false old.at [] before now fault)
+    for_one : (t : Option Told) → IfTold t now (λ before. (full : Bool) → Breaks old.kind full old.at [] before now fault)
+        → IfTold t now (λ before. Breaks old.kind false old.at [] before now fault)
     for_one None h = h
     for_one (Some before) h = h false
 RefusesItem-marker Marked old new told now fault h = absurd h
 RefusesItem-marker Ended old new told now fault h = absurd h
 RefusesItem-marker (Refused known) old new told now fault h = h
+
+-- the places of the faults of a feed, by the call that has them
+pub fault_of_head : (fault : FeedFault) → IsHeadFault fault → IsFeedFault fault
+fault_of_head Memory h = tt
+fault_of_head (FeedHead place) h = h
+fault_of_head (Marker place) h = absurd h
+fault_of_head (FeedCut place) h = omega arith
+fault_of_head (SourceFault count) h = tt
+fault_of_head (TooLong place) h = absurd h
+fault_of_head (UnitLong place) h = absurd h
+
+pub fault_of_item : (at : ℕ) (fault : FeedFault) → FEED_HEAD_LEN ≤ at → IsItemFault at fault → IsFeedFault fault
+fault_of_item at Memory behind h = tt
+fault_of_item at (FeedHead place) behind h = absurd h
+fault_of_item at (Marker place) behind (is, room) = (omega arith, omega arith)
+fault_of_item at (FeedCut place) behind h = h.1
+fault_of_item at (SourceFault count) behind h = tt
+fault_of_item at (TooLong place) behind h = h
+fault_of_item at (UnitLong place) behind (is, room) = (omega arith, omega arith)
+
+pub fault_of_marker : (at : ℕ) (fault : FeedFault) → FEED_HEAD_LEN ≤ at → IsMarkerFault at fault → IsFeedFault fault
+fault_of_marker at fault behind h = fault_of_item at fault behind (IsItemFault-marker at fault h)

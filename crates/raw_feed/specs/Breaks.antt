@@ -1,10 +1,14 @@
--- How an item of a feed breaks, and by whose fault (own). docs/FORMATS.md, "Feeds".
-use Rattle.std.specs.Prelude.{◌≡◌, ℕ, List, ◌++◌, Bool, take, Option, Some, Result, Ok, Err}
+-- How a feed comes to its end for its reader, and by whose fault (own). docs/FORMATS.md, "Feeds".
+use Rattle.std.specs.Prelude.{◌≡◌, ◌+◌, ℕ, List, ◌++◌, Bool, length, take, Option, Some, Result, Ok, Err}
+use Rattle.raw_feed.specs.declared.kind.TheConstants.{MARKER_LEN, UNIT_HEAD_LEN}
+use Rattle.raw_feed.specs.declared.head.TheConstants.{FEED_HEAD_LEN}
+use Rattle.raw_feed.specs.declared.kind.Kind.{Kind}
 use Rattle.raw_feed.specs.declared.fault.FeedFault.{FeedFault}
-use Rattle.raw_feed.specs.declared.fault.FeedFault.TheVariants.{Memory, SourceFault}
-use Rattle.raw_feed.specs.Faults.{Rose}
+use Rattle.raw_feed.specs.declared.fault.FeedFault.TheVariants.{Memory, FeedHead, Marker, FeedCut, SourceFault, TooLong, UnitLong}
+use Rattle.rec_bytes.specs.Faults.{Rose}
 use Rattle.raw_feed.specs.Told.{Told, after}
-use Rattle.raw_feed.specs.Items.{Ending, Broken, EndsAt}
+use Rattle.raw_feed.specs.Items.{Ending, Clean, Full, Broken, EndsAt}
+use Rattle.raw_feed.specs.Feeds.{EndsInHead}
 
 -- the count of a source's faults rises exactly where a fault of the source is answered
 abbrev pub HasFeedCause : {T : Type 0} → ℕ → ℕ → Result T FeedFault → Type 0
@@ -18,10 +22,56 @@ IsBreak Memory = ⊥
 IsBreak (SourceFault count) = ⊥
 IsBreak other = Unit {0}
 
--- The item at a place, of which these bytes were read before, isn't whole. What was read of it ends somehow; a fault that
--- the bytes show is the ending of what was read, and of all bytes that the source had.
-pub record Breaks (full : Bool) (at : ℕ) (front : List ℕ) (old : Told) (new : Option Told) (fault : FeedFault) : Type 0 where
-  pub count : ℕ
-  pub moved : new ≡ Some (after count old)
-  pub read : (ending : Ending) × EndsAt full at (front ++ take count old.left) ending
-  pub shown : IsBreak fault → EndsAt full at (front ++ take count old.left) (Broken fault) × EndsAt full at (front ++ old.left) (Broken fault)
+-- an ending that the bytes of a feed show
+abbrev pub IsShown : Ending → Type 0
+IsShown Clean = Unit {0}
+IsShown Full = Unit {0}
+IsShown (Broken fault) = IsBreak fault
+
+-- an ending of bytes behind which the feed may go on: before an item, or inside a part of it
+abbrev pub MayGoOn : Ending → Type 0
+MayGoOn Clean = Unit {0}
+MayGoOn (Broken (FeedCut place)) = Unit {0}
+MayGoOn ending = ⊥
+
+-- the place behind the last byte that judges an ending, of a feed whose whole items end at the place `at`
+abbrev pub judged_to : ℕ → Ending → ℕ
+judged_to at Clean = at
+judged_to at Full = at + MARKER_LEN
+judged_to at (Broken (FeedHead place)) = FEED_HEAD_LEN
+judged_to at (Broken (Marker place)) = at + MARKER_LEN
+judged_to at (Broken (UnitLong place)) = at + UNIT_HEAD_LEN
+judged_to at (Broken (FeedCut place)) = place
+judged_to at (Broken (TooLong place)) = place + 1
+judged_to at (Broken (SourceFault count)) = at
+judged_to at (Broken Memory) = at
+
+-- the answer for bytes that end so: this ending, or one that no bytes show, for which the feed may go on
+abbrev pub Answers : Ending → Ending → Type 0
+Answers (Broken Memory) ending = MayGoOn ending
+Answers (Broken (SourceFault count)) ending = MayGoOn ending
+Answers answer ending = ending ≡ answer
+
+-- these bytes, the first that were left, were given
+abbrev pub Gave : List ℕ → Told → Option Told → Type 0
+Gave given before now = (take (length given) before.left ≡ given) × (now ≡ Some (after (length given) before))
+
+-- What a source gave from a place on was answered so, by a grammar that says how bytes end there. The bytes that it gave
+-- end by themselves, at the last byte that judges their ending; where bytes show the answer, all that it had end so too.
+pub record EndsBy (Grammar : List ℕ → Ending → Type 0) (from at : ℕ) (answer : Ending) (before : Told) (now : Option Told) : Type 0 where
+  pub given : List ℕ
+  pub gave : Gave given before now
+  pub ending : Ending
+  pub read : Grammar given ending
+  pub reach : from + length given ≡ judged_to at ending
+  pub answered : Answers answer ending
+  pub shown : IsShown answer → Grammar before.left answer
+
+-- the item at a place, of which these bytes were read before, isn't whole
+abbrev pub Breaks : Kind → Bool → ℕ → List ℕ → Told → Option Told → FeedFault → Type 0
+Breaks kind full at front before now fault =
+    EndsBy (λ rest ending. EndsAt kind full at (front ++ rest) ending) (at + length front) at (Broken fault) before now
+
+-- the feed ends in its head
+abbrev pub BreaksHead : Kind → Told → Option Told → FeedFault → Type 0
+BreaksHead kind before now fault = EndsBy (EndsInHead kind) 0 FEED_HEAD_LEN (Broken fault) before now

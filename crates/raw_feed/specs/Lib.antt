@@ -1,10 +1,10 @@
 pub mod Breaks
-pub mod Faults
 pub mod Feeds
+pub mod HasRead
 pub mod Items
-pub mod Parts
 pub mod Reading
 pub mod Refusals
 pub mod Told
-pub mod ToldLaws
 pub mod Written
+pub mod inner
+pub mod laws

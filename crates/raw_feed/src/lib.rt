@@ -1,20 +1,22 @@
-//! Where the bytes of a run come from and go to, and the feed of finished frames.
+//! Where the bytes of a run come from and go to, and the feeds of items that are read from them.
 //!
 //! A `Source` gives the bytes of a feed piece by piece, and a `Sink` takes what a program writes.
 //! Both have a count of faults that never falls, and both may tell their bytes: those in memory do,
-//! and streams don't. The contract that the crates above rest on is `FeedReader::next_unit`: it
-//! gives the unit whose item stands at the reader's place (`GivesUnit`), and refuses where the feed
-//! ends there (`EndsAt` of `specs/Items.antt`). Items joined behind a head are a feed by `IsFeed` of
-//! `specs/Feeds.antt`, which splits its bytes in one way (`feeds_are_one`). Terms: a unit is the bytes of one coded
-//! frame; an item is its marker, its length and the unit; a break is the first byte at which a feed
-//! breaks its grammar. Not promised: anything of the bytes of a source or a sink that doesn't tell
-//! them, and how long a call takes.
+//! and streams don't. The contract that the crates above rest on is `FeedReader::next_unit`, with
+//! the laws of what its calls add up to: `HasRead` of `specs/HasRead.antt` starts with a head and
+//! grows by items (`readings_grow`), and ends as the reading of the feed (`readings_end`), which is
+//! one (`feeds_are_one`). Terms: a unit is the bytes of one coded frame; an item is its marker, its
+//! length and the unit; the `Kind` of a feed says what its items are; a break is the first byte at
+//! which a feed breaks its grammar, and an ending is judged by the bytes up to `judged_to`. Not
+//! promised: anything of the bytes of a source or a sink that doesn't tell them, and how long a
+//! call takes.
 #![tactic(auto)]
 
 mod fault;
 mod head;
+mod kind;
 mod law;
-mod layout;
+mod limits;
 mod memory_sink;
 mod memory_source;
 mod part;
@@ -29,11 +31,13 @@ mod tests;
 mod unit;
 
 pub use fault::FeedFault;
-pub use law::feeds_are_one;
-pub use layout::{HEAD_LEN, MAX_FEED, MAX_UNIT, UNIT_MARKER, UNITS_MAGIC};
+pub use head::FEED_HEAD_LEN;
+pub use kind::{Kind, MAGIC_LEN, MARKER_LEN, UNIT_HEAD_LEN, UNIT_MARKER, UNITS_MAGIC};
+pub use law::{faults_are_placed, feeds_are_one, readings_end, readings_grow};
+pub use limits::{MAX_FEED, MAX_UNIT};
 pub use memory_sink::MemorySink;
 pub use memory_source::MemorySource;
-pub use reader::{FeedReader, Kind};
+pub use reader::FeedReader;
 pub use sink::{Sink, put_all};
 pub use source::{Feed, Source};
 pub use stage::Stage;

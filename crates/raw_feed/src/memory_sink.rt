@@ -2,7 +2,7 @@ ghost use Rattle.std.specs.Prelude.{◌≡◌, ◌<◌, ◌≤◌, ◌+◌, ◌-
 ghost use Rattle.std.specs.List.{list_any};
 ghost use Rattle.std.specs.Result.{is_err};
 ghost use Rattle.std.specs.Vec.{vec_capacity};
-ghost use Rattle.raw_feed.specs.Faults.{HasCause};
+ghost use Rattle.rec_bytes.specs.Faults.{HasCause};
 ghost use Rattle.raw_feed.specs.Written.{Takes};
 
 use crate::sink::Sink;
@@ -64,7 +64,8 @@ impl<'a> Sink for MemorySink<'a> {
         ensures written { Takes (Some self.old.taken.items) (Some self.new.taken.items) result bytes.now }
         ensures cause { HasCause self.old.faults self.new.faults result }
 
-        ensures refused { is_err result ≡ (list_any (λ n. n == self.old.calls) self.old.fail.now || nat_lt (self.old.room - vec_len self.old.taken) (length bytes.now)) }
+        ensures refused { is_err result ≡ (list_any (λ n. n == self.old.calls) self.old.fail.now
+            || nat_lt (self.old.room - vec_len self.old.taken) (length bytes.now)) }
         ensures counted { (self.new.calls ≡ min (self.old.calls + 1) (2 ^ 64 - 1)) × (self.new.fail.now ≡ self.old.fail.now) }
     {
         let call = self.calls;

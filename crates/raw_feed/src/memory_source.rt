@@ -2,8 +2,8 @@ ghost use Rattle.std.specs.Prelude.{◌≡◌, ◌≤◌, ◌+◌, ◌-◌, ◌^
 ghost use Rattle.raw_feed.specs.Told.{Told, Reads, told_from};
 ghost use Rattle.std.specs.Result.{is_err};
 ghost use Rattle.std.specs.List.{list_any};
-ghost use Rattle.raw_feed.specs.Faults.{HasCause};
-ghost use Rattle.raw_feed.specs.ToldLaws.{IsOf-whole};
+ghost use Rattle.rec_bytes.specs.Faults.{HasCause};
+ghost use Rattle.raw_feed.specs.laws.ToldLaws.{IsOf-whole};
 
 use crate::source::{Feed, Source};
 use rec_bytes::Failed;

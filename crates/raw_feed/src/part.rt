@@ -1,11 +1,11 @@
 ghost use Rattle.std.specs.Prelude.{◌≡◌, ◌≤◌, ◌+◌, length, IfOk, IfErr};
-ghost use Rattle.raw_feed.specs.Faults.{HasCause};
-ghost use Rattle.raw_feed.specs.Refusals.{IsPartFault};
-ghost use Rattle.raw_feed.specs.Parts.{FillsFrom, TakesPart, GoesOn};
+ghost use Rattle.rec_bytes.specs.Faults.{HasCause};
+ghost use Rattle.raw_feed.specs.inner.Parts.{IsPartFault};
+ghost use Rattle.raw_feed.specs.inner.Parts.{FillsFrom, TakesPart, GoesOn};
 ghost use Rattle.raw_feed.specs.Breaks.{HasFeedCause};
 
 use crate::fault::FeedFault;
-use crate::layout::MAX_FEED;
+use crate::limits::MAX_FEED;
 use crate::source::{Feed, Source};
 use rec_bytes::Failed;
 

@@ -1,32 +1,26 @@
 ghost use Rattle.std.specs.Prelude.{◌≡◌, ◌≤◌, ◌<◌, ◌+◌, true, false, IfOk, IfErr, IfSome, IfNone};
 ghost use Rattle.std.specs.Bool.{OnTrue, OnFalse};
 ghost use Rattle.rec_bytes.specs.Views.{view};
-ghost use Rattle.raw_feed.specs.Breaks.{HasFeedCause};
+ghost use Rattle.raw_feed.specs.Breaks.{BreaksHead, HasFeedCause};
 ghost use Rattle.raw_feed.specs.Refusals.{IsHeadFault};
-ghost use Rattle.raw_feed.specs.Reading.{ReadsHead, BreaksHead, IfTold, HasReaderCause};
+ghost use Rattle.raw_feed.specs.Reading.{ReadsHead, IfTold, HasReaderCause};
 ghost use Rattle.raw_feed.specs.Reading.{GivesUnit, EndsClean, RefusesItem, GivesMarker, RefusesMarker};
 
 use crate::fault::FeedFault;
-use crate::head::read_head;
-use crate::layout::HEAD_LEN;
+use crate::head::{FEED_HEAD_LEN, read_head};
+use crate::kind::Kind;
 use crate::source::{Feed, Source};
 use crate::stage::Stage;
-use crate::unit::{read_item, read_marker};
+use crate::unit::{item_len, read_item, read_marker};
 use rec_bytes::Config;
 use std::alloc::Global;
 use std::marker::{Model, PhantomData};
-
-/// What the items of a feed are.
-#[derive(Clone, Copy, Debug, PartialEq, Eq)]
-pub enum Kind {
-    /// Finished frames.
-    Units,
-}
 
 /// A reader of a feed, item by item. It keeps no byte of the feed: what it has read is what its
 /// source has given.
 #[derive(Drop)]
 pub struct FeedReader<N: Feed> {
+    kind: Kind,
     config: Config,
     count: u64,
     at: u64,
@@ -38,13 +32,13 @@ impl<N: Feed> Model for FeedReader<N> {
     ghost use Rattle.std.specs.Prelude.{◌≤◌, ◌+◌, ◌≡◌};
     ghost use Rattle.rec_bytes.specs.Views.{view as fields_in};
     ghost use Rattle.raw_feed.specs.Reading.{Reading};
-    ghost use Rattle.raw_feed.specs.declared.layout.TheConstants.{MAX_FEED};
+    ghost use Rattle.raw_feed.specs.declared.limits.TheConstants.{MAX_FEED};
     ghost use Rattle.raw_feed.specs.declared.stage.Stage.TheVariants.{Marked};
 
     ghost Value = { Reading };
 
     ghost view = { λ r.
-        record { config = fields_in r.config; count = r.count; at = r.at; stage = r.stage } };
+        record { kind = r.kind; config = fields_in r.config; count = r.count; at = r.at; stage = r.stage } };
 
     ghost invariant = { λ r.
         (r.at ≤ MAX_FEED) × (r.count ≤ r.config.max_frames)
@@ -55,24 +49,21 @@ impl<N: Feed> FeedReader<N> {
     /// Reads the head of a feed whose items are of this kind.
     pub fn new<S: Source<N>>(kind: Kind, source: &mut S) -> Result<Self, FeedFault>
         ensures head { IfOk result (λ reader.
-            ReadsHead reader (S.told source.old) (S.told source.new)) }
+            ReadsHead kind reader (S.told source.old) (S.told source.new)) }
         ensures refused { IfErr result (λ fault.
             IsHeadFault fault × IfTold (S.told source.old) (S.told source.new)
-            (λ before. BreaksHead before (S.told source.new) fault)) }
+            (λ before. BreaksHead kind before (S.told source.new) fault)) }
         ensures cause { HasFeedCause (S.fault_count source.old) (S.fault_count source.new) result }
     {
-        match kind {
-            Kind::Units => {
-                let config = read_head(source)?;
-                Ok(FeedReader {
-                    config,
-                    count: 0,
-                    at: HEAD_LEN as u64,
-                    stage: Stage::Open,
-                    of: PhantomData,
-                })
-            }
-        }
+        let config = read_head(source, kind)?;
+        Ok(FeedReader {
+            kind,
+            config,
+            count: 0,
+            at: FEED_HEAD_LEN as u64,
+            stage: Stage::Open,
+            of: PhantomData,
+        })
     }
 
     /// The feed's configuration.
@@ -102,7 +93,7 @@ impl<N: Feed> FeedReader<N> {
             (S.fault_count source.old) (S.fault_count source.new) result }
     {
         match self.stage {
-            Stage::Open => match read_marker(source, self.at) {
+            Stage::Open => match read_marker(source, self.kind, self.at) {
                 Ok(true) => {
                     self.stage = Stage::Marked;
                     Ok(true)
@@ -142,10 +133,10 @@ impl<N: Feed> FeedReader<N> {
         if !self.marker(source)? {
             return Ok(None);
         }
-        match read_item(alloc, source, self.at) {
+        match read_item(alloc, source, self.kind, self.at) {
             Ok(unit) => {
                 self.count += 1;
-                self.at += 8 + unit.len() as u64;
+                self.at += item_len(self.kind, &unit);
                 self.stage = Stage::Open;
                 Ok(Some(unit))
             }

@@ -1,5 +1,5 @@
 ghost use Rattle.std.specs.Prelude.{◌≤◌, ◌<◌, ◌≡◌, ℕ, List, Option, length, IfOk};
-ghost use Rattle.raw_feed.specs.Faults.{HasCause};
+ghost use Rattle.rec_bytes.specs.Faults.{HasCause};
 ghost use Rattle.raw_feed.specs.Written.{Takes, Writes};
 
 use rec_bytes::Failed;
@@ -24,7 +24,7 @@ pub trait Sink {
         ensures { result ≡ fault_count self.now };
 }
 
-/// Writes a whole piece, or a front of it where the sink fails.
+/// Writes a whole piece, or where the sink fails a front of it.
 pub fn put_all<W: Sink>(out: &mut W, bytes: &[u8]) -> Result<(), Failed>
     ensures written { Writes (W.written out.old) (W.written out.new) result bytes.now }
     ensures cause { HasCause (W.fault_count out.old) (W.fault_count out.new) result }

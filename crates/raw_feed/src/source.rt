@@ -1,5 +1,5 @@
 ghost use Rattle.std.specs.Prelude.{◌≡◌, ◌≤◌, ℕ, List, Option, None, length, IfOk};
-ghost use Rattle.raw_feed.specs.Faults.{HasCause};
+ghost use Rattle.rec_bytes.specs.Faults.{HasCause};
 ghost use Rattle.raw_feed.specs.Told.{Told, IsOf, Reads};
 
 use rec_bytes::Failed;

@@ -1,7 +1,7 @@
 ghost use Rattle.std.specs.Prelude.{◌≡◌, None, Some};
 
 use crate::part::read_part;
-use crate::{Feed, FeedFault, FeedReader, Kind, MAX_FEED, MemorySource, Source};
+use crate::{Feed, FeedFault, FeedReader, Kind, MemorySource, Source};
 use rec_bytes::Failed;
 use std::alloc::Global;
 use std::marker::Brand;
@@ -102,30 +102,46 @@ fn ending<N: Feed, S: Source<N>, R: Abort>(
     (reader.read_count(), end)
 }
 
-/// The same from memory, and how often the source failed.
+/// The same from memory, how often the source failed, and how many bytes it gave.
 fn memory_ending<N: Feed, R: Abort>(
     rt: &R,
     alloc: Global,
     bytes: &[u8],
     fail: &[u64],
-) -> (u64, Result<bool, FeedFault>, u64)
+) -> (u64, Result<bool, FeedFault>, u64, usize)
     requires { N.bytes ≡ Some bytes.now }
 {
     let mut source = MemorySource::<N>::new(bytes, fail);
     let (units, end) = ending::<N, MemorySource<N>, R>(rt, alloc, &mut source);
-    (units, end, source.faults())
+    (units, end, source.faults(), source.at)
 }
 
 #[test]
 fn each_break_has_its_place(rt: HostRuntime) -> Result<(), Fail> {
     let cut = |at| Err(FeedFault::FeedCut { at });
-    // three units, cut at a byte, with four bytes put at a place
-    let cases: [(&str, usize, usize, &[u8; 4], u64, Result<bool, FeedFault>); 21] = [
-        ("whole", 246, 72, b"UNIT", 3, Ok(false)),
-        ("no unit", 72, 0, b"PRFE", 0, Ok(false)),
-        ("empty", 0, 0, b"PRFE", 0, cut(0)),
-        ("head cut", 71, 0, b"PRFE", 0, cut(71)),
-        ("head cut behind a wrong byte", 71, 0, b"QRFE", 0, cut(71)),
+    // three units, cut at a byte, with four bytes put at a place, and how many bytes are read
+    let cases: [(
+        &str,
+        usize,
+        usize,
+        &[u8; 4],
+        u64,
+        Result<bool, FeedFault>,
+        usize,
+    ); 21] = [
+        ("whole", 246, 72, b"UNIT", 3, Ok(false), 246),
+        ("no unit", 72, 0, b"PRFE", 0, Ok(false), 72),
+        ("empty", 0, 0, b"PRFE", 0, cut(0), 0),
+        ("head cut", 71, 0, b"PRFE", 0, cut(71), 71),
+        (
+            "head cut behind a wrong byte",
+            71,
+            0,
+            b"QRFE",
+            0,
+            cut(71),
+            71,
+        ),
         (
             "first byte",
             246,
@@ -133,6 +149,7 @@ fn each_break_has_its_place(rt: HostRuntime) -> Result<(), Fail> {
             b"QRFE",
             0,
             Err(FeedFault::FeedHead { at: 0 }),
+            72,
         ),
         (
             "last byte of the magic",
@@ -141,6 +158,7 @@ fn each_break_has_its_place(rt: HostRuntime) -> Result<(), Fail> {
             b"EDU2",
             0,
             Err(FeedFault::FeedHead { at: 7 }),
+            72,
         ),
         (
             "magic of pictures",
@@ -149,6 +167,7 @@ fn each_break_has_its_place(rt: HostRuntime) -> Result<(), Fail> {
             b"EDP1",
             0,
             Err(FeedFault::FeedHead { at: 6 }),
+            72,
         ),
         (
             "odd width",
@@ -157,6 +176,7 @@ fn each_break_has_its_place(rt: HostRuntime) -> Result<(), Fail> {
             &[0, 17, 0, 16],
             0,
             Err(FeedFault::FeedHead { at: 8 }),
+            72,
         ),
         (
             "bytes that belong to no field",
@@ -165,6 +185,7 @@ fn each_break_has_its_place(rt: HostRuntime) -> Result<(), Fail> {
             &[0, 0, 0, 1],
             0,
             Err(FeedFault::FeedHead { at: 60 }),
+            72,
         ),
         (
             "marker",
@@ -173,6 +194,7 @@ fn each_break_has_its_place(rt: HostRuntime) -> Result<(), Fail> {
             b"UNIX",
             0,
             Err(FeedFault::Marker { at: 72 }),
+            76,
         ),
         (
             "second marker",
@@ -181,10 +203,11 @@ fn each_break_has_its_place(rt: HostRuntime) -> Result<(), Fail> {
             b"PICT",
             1,
             Err(FeedFault::Marker { at: 130 }),
+            134,
         ),
-        ("marker cut", 75, 72, b"UNIX", 0, cut(75)),
-        ("length cut", 79, 76, &[255; 4], 0, cut(79)),
-        ("unit cut", 200, 72, b"UNIT", 2, cut(200)),
+        ("marker cut", 75, 72, b"UNIX", 0, cut(75), 75),
+        ("length cut", 79, 76, &[255; 4], 0, cut(79), 79),
+        ("unit cut", 200, 72, b"UNIT", 2, cut(200), 200),
         (
             "length above the limit",
             246,
@@ -192,6 +215,7 @@ fn each_break_has_its_place(rt: HostRuntime) -> Result<(), Fail> {
             &[0x10, 0, 0, 1],
             0,
             Err(FeedFault::UnitLong { at: 76 }),
+            80,
         ),
         (
             "length at the limit",
@@ -200,6 +224,7 @@ fn each_break_has_its_place(rt: HostRuntime) -> Result<(), Fail> {
             &[0x10, 0, 0, 0],
             0,
             cut(246),
+            246,
         ),
         (
             "as many as there may be",
@@ -208,9 +233,18 @@ fn each_break_has_its_place(rt: HostRuntime) -> Result<(), Fail> {
             &[0, 0, 0, 1],
             1,
             Ok(false),
+            130,
         ),
-        ("one more marker", 246, 28, &[0, 0, 0, 1], 1, Ok(true)),
-        ("two bytes of one more", 132, 28, &[0, 0, 0, 1], 1, cut(132)),
+        ("one more marker", 246, 28, &[0, 0, 0, 1], 1, Ok(true), 134),
+        (
+            "two bytes of one more",
+            132,
+            28,
+            &[0, 0, 0, 1],
+            1,
+            cut(132),
+            132,
+        ),
         (
             "no marker behind the last",
             246,
@@ -218,14 +252,15 @@ fn each_break_has_its_place(rt: HostRuntime) -> Result<(), Fail> {
             &[0, 0, 0, 3],
             3,
             Ok(false),
+            246,
         ),
     ];
-    for (what, len, at, put, units, end) in cases {
+    for (what, len, at, put, units, end, read) in cases {
         let mut bytes = feed(rt.alloc(), 3)?;
         assert!(rt; bytes.len() == 246 && at <= 242 && len <= 246);
         bytes[at..at + 4].copy_from_slice(put);
         let seen = memory_ending::<Brand, HostRuntime>(&rt, rt.alloc(), &bytes[..len], &[]);
-        assert_eq!(rt; seen, (units, end, 0), "{what}");
+        assert_eq!(rt; seen, (units, end, 0, read), "{what}");
     }
     Ok(())
 }
@@ -234,18 +269,18 @@ fn each_break_has_its_place(rt: HostRuntime) -> Result<(), Fail> {
 fn a_source_that_failed_is_not_asked_again(rt: HostRuntime) -> Result<(), Fail> {
     let bytes = feed(rt.alloc(), 3)?;
     // calls 0 to 9: the head, then marker, length and bytes of each unit
-    let cases: [(&[u64], u64); 5] = [
-        (&[0, 1], 0),
-        (&[1, 2], 0),
-        (&[2], 0),
-        (&[3, 4], 0),
-        (&[7, 8, 9], 2),
+    let cases: [(&[u64], u64, usize); 5] = [
+        (&[0, 1], 0, 0),
+        (&[1, 2], 0, 72),
+        (&[2], 0, 76),
+        (&[3, 4], 0, 80),
+        (&[7, 8, 9], 2, 188),
     ];
-    for (fail, units) in cases {
+    for (fail, units, read) in cases {
         let seen = memory_ending::<Brand, HostRuntime>(&rt, rt.alloc(), bytes.as_slice(), fail);
         assert_eq!(rt;
             seen,
-            (units, Err(FeedFault::SourceFault { at: 1 }), 1),
+            (units, Err(FeedFault::SourceFault { at: 1 }), 1, read),
             "{fail:?}"
         );
     }
@@ -290,7 +325,10 @@ fn a_marker_is_read_once(rt: HostRuntime) -> Result<(), Fail> {
 #[test]
 fn a_feed_ends_at_its_limit(rt: HostRuntime) {
     let five = [1, 2, 3, 4, 5];
-    let long = Err(FeedFault::TooLong { at: MAX_FEED });
+    // docs/FORMATS.md, "Feeds": 2^44 bytes, written by hand.
+    let long = Err(FeedFault::TooLong {
+        at: 17_592_186_044_416,
+    });
     // bytes that are there, bytes that are wanted, three bytes before the limit
     let cases = [
         (3, 3, Ok(3)),
@@ -305,7 +343,11 @@ fn a_feed_ends_at_its_limit(rt: HostRuntime) {
             bytes: &five[..there],
         };
         let mut out = [0; 5];
-        let answer = read_part::<Brand, OneByOne>(&mut source, MAX_FEED - 3, &mut out[..wanted]);
+        let answer = read_part::<Brand, OneByOne>(
+            &mut source,
+            17_592_186_044_413,
+            &mut out[..wanted],
+        );
         assert_eq!(rt; answer, came, "{wanted} of {there}");
         assert_eq!(rt; (out[0], out[1]), (1, 2), "{wanted} of {there}");
     }

@@ -1,13 +1,15 @@
-ghost use Rattle.std.specs.Prelude.{◌≡◌, ◌≤◌, ◌+◌, ◌-◌, length, take, drop, IfOk, IfErr, OnOk, vec_len};
-ghost use Rattle.std.specs.Bool.{OnTrue};
+ghost use Rattle.std.specs.Prelude.{◌≡◌, ◌≤◌, ◌+◌, ◌-◌, None, length, take, drop, max, IfOk, IfErr, OnOk, vec_len};
+ghost use Rattle.raw_feed.specs.Items.{IsSized, item, marker};
+ghost use Rattle.std.specs.Bool.{OnTrue, OnFalse};
 ghost use Rattle.byteorder.specs.Endian.{big_bytes, big_number};
-ghost use Rattle.raw_feed.specs.Parts.{MarkerRead, LenRead, BytesRead, ItemRead};
-ghost use Rattle.raw_feed.specs.Parts.{TakesPart, TakesPiece};
+ghost use Rattle.raw_feed.specs.inner.Parts.{MarkerRead, LenRead, BytesRead, ItemRead};
+ghost use Rattle.raw_feed.specs.inner.Parts.{IsPartFault, IsPieceFault, TakesPart, TakesPiece};
 ghost use Rattle.raw_feed.specs.Breaks.{HasFeedCause};
-ghost use Rattle.raw_feed.specs.Refusals.{IsPartFault, IsMarkerFault, IsItemFault};
+ghost use Rattle.raw_feed.specs.Refusals.{IsMarkerFault, IsItemFault};
 
 use crate::fault::FeedFault;
-use crate::layout::{MAX_FEED, MAX_UNIT, UNIT_MARKER};
+use crate::kind::{Kind, MARKER_LEN, UNIT_HEAD_LEN, marker_of};
+use crate::limits::{MAX_FEED, MAX_UNIT};
 use crate::part::read_part;
 use crate::source::{Feed, Source};
 use byteorder::{BigEndian, ByteOrder};
@@ -17,48 +19,61 @@ use std::alloc::Global;
 const FIRST_PIECE: usize = 0x10_0000;
 
 /// Reads the marker of the item at a place, and answers false where the feed ends there.
-pub(crate) fn read_marker<N: Feed, S: Source<N>>(source: &mut S, at: u64) -> Result<bool, FeedFault>
+pub(crate) fn read_marker<N: Feed, S: Source<N>>(
+    source: &mut S,
+    kind: Kind,
+    at: u64,
+) -> Result<bool, FeedFault>
     requires { at ≤ MAX_FEED }
-    ensures within { IfOk result (λ more. OnTrue more (at + 4 ≤ MAX_FEED)) }
-    ensures named { IfErr result IsMarkerFault }
-    ensures marked { MarkerRead at (S.told source.old) (S.told source.new) result }
+    ensures within { IfOk result (λ more. OnTrue more (at + MARKER_LEN ≤ MAX_FEED)) }
+    ensures named { IfErr result (IsMarkerFault at) }
+    ensures marked { MarkerRead kind at (S.told source.old) (S.told source.new) result }
     ensures cause { HasFeedCause (S.fault_count source.old) (S.fault_count source.new) result }
 {
-    let mut marker = [0u8; 4];
+    let mut marker = [0u8; MARKER_LEN];
     let came = read_part(source, at, &mut marker)?;
     if came == 0 {
         return Ok(false);
     }
-    if came < 4 {
+    if came < MARKER_LEN {
         return Err(FeedFault::FeedCut {
             at: at + came as u64,
         });
     }
-    if marker != UNIT_MARKER {
+    if !is_marker(kind, &marker) {
         return Err(FeedFault::Marker { at });
     }
     Ok(true)
 }
 
+/// Whether the bytes are the marker of an item.
+fn is_marker(kind: Kind, bytes: &[u8; MARKER_LEN]) -> bool
+    ensures right { OnTrue result (bytes.now ≡ marker kind) }
+    ensures wrong { OnFalse result (bytes.now ≡ marker kind → ⊥) }
+{
+    *bytes == marker_of(kind)
+}
+
 /// Reads the length of the unit at a place, behind its marker.
 fn read_unit_len<N: Feed, S: Source<N>>(source: &mut S, at: u64) -> Result<u32, FeedFault>
-    requires { at + 4 ≤ MAX_FEED }
+    requires { at + MARKER_LEN ≤ MAX_FEED }
     ensures most { IfOk result (λ len. len ≤ MAX_UNIT) }
-    ensures within { IfOk result (λ len. at + 8 ≤ MAX_FEED) }
-    ensures named { IfErr result IsItemFault }
+    ensures within { IfOk result (λ len. at + UNIT_HEAD_LEN ≤ MAX_FEED) }
+    ensures named { IfErr result (IsItemFault at) }
     ensures spelled { LenRead at (S.told source.old) (S.told source.new) result }
     ensures cause { HasFeedCause (S.fault_count source.old) (S.fault_count source.new) result }
 {
     let mut bytes = [0u8; 4];
-    let came = read_part(source, at + 4, &mut bytes)?;
+    let place = at + MARKER_LEN as u64;
+    let came = read_part(source, place, &mut bytes)?;
     if came < 4 {
         return Err(FeedFault::FeedCut {
-            at: at + 4 + came as u64,
+            at: place + came as u64,
         });
     }
     let len = len_of(&bytes);
     if len > MAX_UNIT {
-        return Err(FeedFault::UnitLong { at: at + 4 });
+        return Err(FeedFault::UnitLong { at: place });
     }
     Ok(len)
 }
@@ -75,16 +90,47 @@ fn len_of(bytes: &[u8; 4]) -> u32
 pub(crate) fn read_item<N: Feed, S: Source<N>>(
     alloc: Global,
     source: &mut S,
+    kind: Kind,
     at: u64,
 ) -> Result<Vec<u8>, FeedFault>
-    requires { at + 4 ≤ MAX_FEED }
-    ensures most { IfOk result (λ unit. length unit.items ≤ MAX_UNIT) }
-    ensures within { IfOk result (λ unit. at + 8 + length unit.items ≤ MAX_FEED) }
-    ensures named { IfErr result IsItemFault }
+    requires { at + MARKER_LEN ≤ MAX_FEED }
+    ensures sized { IfOk result (λ unit. IsSized kind unit.items × (at + length (item kind unit.items) ≤ MAX_FEED)) }
+    ensures named { IfErr result (IsItemFault at) }
     ensures read { IfOk result (λ unit.
-        ItemRead at (S.told source.old) (S.told source.new) (Ok unit.items)) }
+        ItemRead kind at (S.told source.old) (S.told source.new) (Ok unit.items)) }
     ensures broken { IfErr result (λ fault.
-        ItemRead at (S.told source.old) (S.told source.new) (Err fault)) }
+        ItemRead kind at (S.told source.old) (S.told source.new) (Err fault)) }
+    ensures cause { HasFeedCause (S.fault_count source.old) (S.fault_count source.new) result }
+{
+    match kind {
+        Kind::Units => read_unit(alloc, source, at),
+    }
+}
+
+/// Bytes of the item of a unit.
+pub(crate) fn item_len(kind: Kind, unit: &[u8]) -> u64
+    requires { length unit.now + UNIT_HEAD_LEN ≤ MAX_FEED }
+    ensures { result ≡ length (item kind unit.now) }
+{
+    match kind {
+        Kind::Units => UNIT_HEAD_LEN as u64 + unit.len() as u64,
+    }
+}
+
+/// Reads the length and the bytes of the unit at a place, behind its marker.
+fn read_unit<N: Feed, S: Source<N>>(
+    alloc: Global,
+    source: &mut S,
+    at: u64,
+) -> Result<Vec<u8>, FeedFault>
+    requires { at + MARKER_LEN ≤ MAX_FEED }
+    ensures most { IfOk result (λ unit. length unit.items ≤ MAX_UNIT) }
+    ensures within { IfOk result (λ unit. at + UNIT_HEAD_LEN + length unit.items ≤ MAX_FEED) }
+    ensures named { IfErr result (IsItemFault at) }
+    ensures read { IfOk result (λ unit.
+        ItemRead Kind.Units at (S.told source.old) (S.told source.new) (Ok unit.items)) }
+    ensures broken { IfErr result (λ fault.
+        ItemRead Kind.Units at (S.told source.old) (S.told source.new) (Err fault)) }
     ensures cause { HasFeedCause (S.fault_count source.old) (S.fault_count source.new) result }
 {
     let len = read_unit_len(source, at)?;
@@ -101,10 +147,10 @@ fn read_bytes<N: Feed, S: Source<N>>(
     len: u32,
 ) -> Result<Vec<u8>, FeedFault>
     requires most { len ≤ MAX_UNIT }
-    requires within { at + 8 ≤ MAX_FEED }
+    requires within { at + UNIT_HEAD_LEN ≤ MAX_FEED }
     ensures long { IfOk result (λ unit. length unit.items ≡ len) }
-    ensures within { IfOk result (λ unit. at + 8 + len ≤ MAX_FEED) }
-    ensures named { IfErr result IsItemFault }
+    ensures within { IfOk result (λ unit. at + UNIT_HEAD_LEN + len ≤ MAX_FEED) }
+    ensures named { IfErr result (IsItemFault at) }
     ensures read { IfOk result (λ unit.
         BytesRead at len (S.told source.old) (S.told source.new) (Ok unit.items)) }
     ensures broken { IfErr result (λ fault.
@@ -116,10 +162,11 @@ fn read_bytes<N: Feed, S: Source<N>>(
     while unit.len() < len {
         let had = unit.len();
         let more = (len - had).min(had.max(FIRST_PIECE));
-        let came = read_piece(source, at + 8 + had as u64, &mut unit, more)?;
+        let place = at + UNIT_HEAD_LEN as u64 + had as u64;
+        let came = read_piece(source, place, &mut unit, more)?;
         if came < more {
             return Err(FeedFault::FeedCut {
-                at: at + 8 + (had + came) as u64,
+                at: place + came as u64,
             });
         }
     }
@@ -135,9 +182,10 @@ fn read_piece<N: Feed, S: Source<N>>(
 ) -> Result<usize, FeedFault>
     requires place { at ≤ MAX_FEED }
     requires room { vec_len unit.old + more ≤ MAX_UNIT }
+    requires earned { more ≤ max (vec_len unit.old) FIRST_PIECE }
     ensures most { IfOk result (λ n. n ≤ more) }
     ensures within { IfOk result (λ n. at + n ≤ MAX_FEED) }
-    ensures named { IfErr result IsItemFault }
+    ensures named { IfErr result IsPieceFault }
     ensures kept { OnOk result (take (vec_len unit.old) unit.new.items ≡ unit.old.items) }
     ensures taken { TakesPiece at more (vec_len unit.old)
         (S.told source.old) (S.told source.new) result unit.new.items }
@@ -167,4 +215,57 @@ fn read_behind<N: Feed, S: Source<N>>(
     ensures cause { HasFeedCause (S.fault_count source.old) (S.fault_count source.new) result }
 {
     read_part(source, at, &mut out[had..])
+}
+
+#[cfg(test)]
+mod tests {
+    use super::*;
+    use rec_bytes::Failed;
+    use std::marker::Brand;
+    use std::test::Fail;
+
+    /// A source of so many zeros that doesn't tell, and keeps the longest piece that was wanted.
+    #[derive(Drop)]
+    struct Zeros {
+        left: usize,
+        longest: usize,
+    }
+
+    impl Source<Brand> for Zeros {
+        ghost told = { λ s. None };
+
+        ghost fault_count = { λ s. 0 };
+
+        ghost whole = { λ s. tt };
+
+        fn read(&mut self, out: &mut [u8]) -> Result<usize, Failed> {
+            self.longest = self.longest.max(out.len());
+            let count = self.left.min(out.len());
+            self.left -= count;
+            Ok(count)
+        }
+
+        fn faults(&self) -> u64 {
+            0
+        }
+    }
+
+    // 2^20 bytes are wanted first, and then at most as many as came.
+    #[test]
+    fn memory_is_taken_as_the_bytes_come(rt: HostRuntime) -> Result<(), Fail> {
+        let cases: [(usize, usize); 4] = [
+            (3, 0x10_0000),
+            (0x10_0000, 0x10_0000),
+            (0x20_0000, 0x20_0000),
+            (0x30_0000, 0x20_0000),
+        ];
+        for (left, longest) in cases {
+            let mut source = Zeros { left, longest: 0 };
+            let at = 72 + 8 + left as u64;
+            let cut = read_bytes::<Brand, Zeros>(rt.alloc(), &mut source, 72, MAX_UNIT);
+            assert_eq!(rt; cut, Err(FeedFault::FeedCut { at }), "{left} bytes came");
+            assert_eq!(rt; source.longest, longest, "{left} bytes came");
+        }
+        Ok(())
+    }
 }

@@ -4,7 +4,8 @@ use Rattle.std.proofs.lemmas.Bool.{and_parts, or_cases, leb-true, eqb-true}
 use Rattle.std.specs.List.{list_all}
 use Rattle.rec_bytes.specs.Configuration.{Fields, field_rules, picture_rules, coding_rules, take_rules, is_config, within, is_even}
 use Rattle.rec_bytes.specs.Ranges.{IsWithin, IsInRange}
-use Rattle.rec_bytes.specs.declared.layout.TheConstants.{MAX_WIDTH, MAX_HEIGHT, MAX_INTERLACE, MAX_RATE, MAX_ASPECT, MAX_LOG2, MAX_INDEX, MAX_WEIGHTS, MAX_CODING, MAX_DROP, MAX_BUDGET, MAX_PART, MAX_FRAMES, MAX_LAG}
+use Rattle.rec_bytes.specs.declared.config_fields.TheConstants.{MAX_WIDTH, MAX_HEIGHT, MAX_INTERLACE, MAX_RATE, MAX_ASPECT, MAX_LOG2, MAX_INDEX, MAX_WEIGHTS}
+use Rattle.rec_bytes.specs.declared.config_fields.TheConstants.{MAX_CODING, MAX_DROP, MAX_BUDGET, MAX_PART, MAX_FRAMES, MAX_LAG}
 
 -- the rule at a place in a list of rules that are all kept
 at_each : (rules : List (ℕ × Bool)) (n : ℕ) → list_all (λ (rule : ℕ × Bool). rule.1) rules ≡ true → (get_or rules n (0, true)).1 ≡ true

@@ -9,7 +9,8 @@ use Rattle.rec_bytes.specs.Places.{number_at, with_bytes}
 use borrow.Rule.Slice.PartMut.{put_mid}
 
 -- a write of n bytes at the front of the part of a slice from a place on
-pub put_is : (at n : ℕ) (xs ys bytes : List ℕ) → length bytes ≡ n → at + n ≤ length xs → ys ≡ bytes ++ drop n (take (length xs - at) (drop at xs)) → put_mid at (length xs - at) xs ys ≡ with_bytes xs at bytes
+pub put_is : (at n : ℕ) (xs ys bytes : List ℕ) → length bytes ≡ n → at + n ≤ length xs
+    → ys ≡ bytes ++ drop n (take (length xs - at) (drop at xs)) → put_mid at (length xs - at) xs ys ≡ with_bytes xs at bytes
 put_is at n xs ys bytes l h e =
     let past : drop (length xs - at) (drop at xs) ≡ [] = drop_all (length xs - at) (drop at xs) (omega (arith, length-drop at xs)) in
     rw (e, take_rest xs at, past, append-nil, drop-drop, l, append_assoc) refl
@@ -30,5 +31,6 @@ taken bytes n at value room small =
     let l : length (big_bytes n value) ≡ n = length-bytes_high_first n value in
     let front : length (take at bytes) ≡ at = length-take-le at bytes (omega arith) in
     let rest : drop at written ≡ big_bytes n value ++ past = rw append_assoc (drop_at (take at bytes) _ at front) in
-    let long : at + n ≤ length written = omega (arith, length-append (take at bytes ++ big_bytes n value) past, length-append (take at bytes) (big_bytes n value), l, front) in
+    let long : at + n ≤ length written =
+    omega (arith, length-append (take at bytes ++ big_bytes n value) past, length-append (take at bytes) (big_bytes n value), l, front) in
     rw (le-ltb (length written) (at + n) long, rest, big_number-reads_back n value _ small) refl

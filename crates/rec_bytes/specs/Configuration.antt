@@ -1,9 +1,13 @@
 -- The configuration, 64 bytes: its fields, their rules and its one spelling (own). docs/FORMATS.md, "Configuration".
-use Rattle.std.specs.Prelude.{◌≡◌, ℕ, ◌%◌, List, [], ◌∷◌, ◌++◌, Bool, nat_le, ◌==◌, ◌&&◌, ◌||◌, Option, Some, None, if◌then◌else◌, drop, take, slice_index, replicate}
+use Rattle.std.specs.Prelude.{◌≡◌, ℕ, ◌%◌, List, [], ◌∷◌, ◌++◌, Bool, nat_le, ◌==◌, ◌&&◌, ◌||◌, Option, Some, None, if◌then◌else◌, drop, take}
+use Rattle.std.specs.Prelude.{slice_index, replicate}
 use Rattle.std.specs.List.{list_all}
 use Rattle.byteorder.specs.Endian.{big_number, big_bytes}
-use Rattle.rec_bytes.specs.declared.layout.TheConstants.{MAX_WIDTH, MAX_HEIGHT, MAX_INTERLACE, MAX_RATE, MAX_ASPECT, MAX_LOG2, MAX_INDEX, MAX_WEIGHTS, MAX_CODING, MAX_DROP, MAX_BUDGET, MAX_PART, MAX_FRAMES, MAX_LAG}
-use Rattle.rec_bytes.specs.declared.layout.TheConstants.{WIDTH_AT, HEIGHT_AT, INTERLACE_AT, RATE_AT, ASPECT_AT, PRIMARIES_AT, TRANSFER_AT, MATRIX_AT, LOG2_AT, QMIN_AT, QMAX_AT, WEIGHTS_AT, CODING_AT, DROP_AT, BUDGET_AT, PART_AT, MAX_FRAMES_AT, LAG_AT, ZERO_AT, START_AT, TAKE_ID_AT, ENCODER_AT, END_AT}
+use Rattle.rec_bytes.specs.declared.config_fields.TheConstants.{MAX_WIDTH, MAX_HEIGHT, MAX_INTERLACE, MAX_RATE, MAX_ASPECT, MAX_LOG2, MAX_INDEX, MAX_WEIGHTS}
+use Rattle.rec_bytes.specs.declared.config_fields.TheConstants.{MAX_CODING, MAX_DROP, MAX_BUDGET, MAX_PART, MAX_FRAMES, MAX_LAG}
+use Rattle.rec_bytes.specs.declared.config_fields.TheConstants.{WIDTH_AT, HEIGHT_AT, INTERLACE_AT, RATE_AT, ASPECT_AT, PRIMARIES_AT, TRANSFER_AT, MATRIX_AT}
+use Rattle.rec_bytes.specs.declared.config_fields.TheConstants.{LOG2_AT, QMIN_AT, QMAX_AT, WEIGHTS_AT, CODING_AT, DROP_AT, BUDGET_AT, PART_AT, MAX_FRAMES_AT}
+use Rattle.rec_bytes.specs.declared.config_fields.TheConstants.{LAG_AT, ZERO_AT, START_AT, TAKE_ID_AT, ENCODER_AT, END_AT}
 
 -- the fields, in the order of their bytes
 pub record Fields : Type 0 where

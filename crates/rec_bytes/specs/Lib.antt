@@ -1,5 +1,6 @@
 pub mod Configuration
-pub mod Laws
+pub mod Faults
 pub mod Places
 pub mod Ranges
 pub mod Views
+pub mod laws

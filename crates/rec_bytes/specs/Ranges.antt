@@ -1,7 +1,8 @@
 -- The range of each field of a configuration (own). docs/FORMATS.md, "Configuration".
 use Rattle.std.specs.Prelude.{◌≡◌, ◌≢◌, ◌≤◌, ◌<◌, ◌^◌, ◌%◌, ℕ, length}
 use Rattle.rec_bytes.specs.Configuration.{Fields}
-use Rattle.rec_bytes.specs.declared.layout.TheConstants.{MAX_WIDTH, MAX_HEIGHT, MAX_INTERLACE, MAX_RATE, MAX_ASPECT, MAX_LOG2, MAX_INDEX, MAX_WEIGHTS, MAX_CODING, MAX_DROP, MAX_BUDGET, MAX_PART, MAX_FRAMES, MAX_LAG}
+use Rattle.rec_bytes.specs.declared.config_fields.TheConstants.{MAX_WIDTH, MAX_HEIGHT, MAX_INTERLACE, MAX_RATE, MAX_ASPECT, MAX_LOG2, MAX_INDEX, MAX_WEIGHTS}
+use Rattle.rec_bytes.specs.declared.config_fields.TheConstants.{MAX_CODING, MAX_DROP, MAX_BUDGET, MAX_PART, MAX_FRAMES, MAX_LAG}
 
 -- from low to high, both among them
 pub record IsWithin (low n high : ℕ) : Type 0 where

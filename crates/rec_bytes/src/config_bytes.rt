@@ -1,11 +1,13 @@
-ghost use Rattle.std.specs.Prelude.{◌≡◌, ◌+◌, ◌^◌, ◌≤◌, ◌<◌, [], ◌∷◌, ◌++◌, true, Some, length, drop, take, slice_index, replicate, IfSome, IfOk, IfErr};
+ghost use Rattle.std.specs.Prelude.{◌≡◌, ◌+◌, ◌^◌, ◌≤◌, ◌<◌, [], ◌∷◌, ◌++◌, true, ℕ, List, Some, None, length, drop, take, slice_index, replicate};
+ghost use Rattle.std.specs.Prelude.{IfSome, IfOk, IfErr};
 ghost use Rattle.byteorder.specs.Endian.{big_number, big_bytes};
-ghost use Rattle.rec_bytes.specs.Configuration.{Spells, fields_of, first_fault, first_broken, picture_rules, coding_rules, take_rules, zero_rules, field_rules, is_config, are_zero};
+ghost use Rattle.rec_bytes.specs.Configuration.{Fields, Spells, fields_of, first_fault, first_broken, picture_rules, coding_rules, take_rules, zero_rules};
+ghost use Rattle.rec_bytes.specs.Configuration.{field_rules, is_config, are_zero};
 ghost use Rattle.rec_bytes.specs.Views.{view};
-ghost use Rattle.rec_bytes.specs.declared.layout.TheConstants.{CONFIG_LEN};
+ghost use Rattle.rec_bytes.specs.declared.config_fields.TheConstants.{CONFIG_LEN};
 
 use crate::config::Config;
-use crate::layout::*;
+use crate::config_fields::*;
 use crate::number::{put_bytes, put_u16, put_u32};
 use byteorder::{BigEndian, ByteOrder};
 
@@ -212,6 +214,14 @@ pub fn put_config(cfg: &Config, out: &mut [u8; CONFIG_LEN])
     append::<4>(out, ENCODER_AT, &cfg.encoder);
     append::<12>(out, END_AT, &[0; 12]);
 }
+
+/// Shows that 64 bytes which break no rule are the spelling of the fields that stand in them, and
+/// that a spelling has 64 bytes. It does nothing when it runs.
+pub fn spellings_are_configurations()
+    ensures there { (bytes : List ℕ) → length bytes ≡ CONFIG_LEN → ((i : ℕ) → slice_index bytes i < 256)
+        → first_fault bytes ≡ None → Spells bytes (fields_of bytes) }
+    ensures sized { (bytes : List ℕ) (fields : Fields) → Spells bytes fields → length bytes ≡ CONFIG_LEN }
+{}
 
 /// Writes a byte behind those that are written.
 fn append_u8(out: &mut [u8; CONFIG_LEN], at: usize, value: u8)

@@ -13,7 +13,6 @@ const SMALL: [u8; 64] = [
 ];
 
 #[test]
-#[tactic(auto, unfolding(crate::specs::Configuration::is_config, crate::specs::Configuration::field_rules, crate::specs::Configuration::picture_rules, crate::specs::Configuration::coding_rules, crate::specs::Configuration::take_rules))]
 fn the_example_is_written_and_read(rt: HostRuntime) {
     let cfg = Config {
         width: 16,

@@ -1,2 +1,4 @@
-pub mod Takes
-pub mod Walks
+pub use Rattle.take_layout.specs.Grown
+pub use Rattle.take_layout.specs.Growing
+pub use Rattle.take_layout.specs.Takes
+pub use Rattle.take_layout.specs.Walks

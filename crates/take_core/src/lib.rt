@@ -1,20 +1,13 @@
-//! A take as the crates above see it, whatever its file looks like: where its units lie, and the layout of the file.
+//! A take as the crates above see it. What happens to it, event by event, is to stand here; the layout of its file is a
+//! crate of its own, passed on, so that an edit of the events doesn't prove the file again.
 //!
-//! The crates above rest on the laws of the trait `TakeLayout`: the growing file of no units is the head, of one unit
-//! more it is longer by the unit's lead and the unit, and the closed file is the growing one and the tail.
-//!
-//! Terms: a *unit* is a coded frame; a *lead* is what stands in the file between a unit and the bytes before it; the
-//! *growing file* is the file of the units so far, before it is closed; the *places* say where its units lie.
+//! The crates above rest on the laws of the trait `TakeLayout`, on what follows of them (`units_lie`, `looks_decide`,
+//! `files_are_one`, ..), and on `GrowingFile`, which keeps in memory where the units of a take lie.
 //!
 //! Not promised: anything of what a head, a lead or a tail says.
 #![tactic(auto)]
 
-mod law;
-mod layout;
-mod place;
-mod walk;
-
-pub use law::files_are_one;
-pub use layout::TakeLayout;
-pub use place::Place;
-pub use walk::Walk;
+pub use take_layout::{
+    GrowingFile, Place, TakeLayout, Walk, files_are_one, files_fit, growing_begins, looks_decide,
+    rooms_suffice, units_lie,
+};

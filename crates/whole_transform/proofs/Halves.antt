@@ -4,7 +4,7 @@ use Rattle.std.proofs.Math.Nat.{le_trans, le_refl}
 use Rattle.std.proofs.lemmas.Int.{ints}
 use Rattle.std.specs.Int.RustNames.{unsigned_abs}
 use Rattle.whole_transform.specs.Sums.{sum_to}
-use Rattle.whole_transform.specs.Passes.{even_of, inverse_of, odd_of}
+use Rattle.whole_transform.specs.inner.Passes.{even_of, inverse_of, odd_of}
 use Rattle.whole_transform.specs.Transform.{basis, turn, cosine}
 use Rattle.whole_transform.proofs.EachLemmas.{below_four, below_eight}
 use Rattle.whole_transform.proofs.SumLemmas.{abs-mul-le, total, sum_bound}

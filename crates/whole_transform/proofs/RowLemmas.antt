@@ -2,7 +2,7 @@
 use Rattle.std.proofs.Common.{◌≡◌, ◌∙◌, ℕ, ◌+◌, ◌-◌, ◌*◌, ◌^◌, ◌<◌, ◌≤◌, arith, lit≤, ℤ, pos, ◌+ℤ◌, ◌-ℤ◌, ◌*ℤ◌, subst, sym, w32, to_z, of_z, ap₂}
 use Rattle.std.proofs.lemmas.Int.{ints}
 use Rattle.std.specs.Int.RustNames.{unsigned_abs}
-use Rattle.whole_transform.specs.Passes.{even_of, inverse_of, odd_of}
+use Rattle.whole_transform.specs.inner.Passes.{even_of, inverse_of, odd_of}
 use Rattle.whole_transform.specs.Transform.{sample}
 use Rattle.whole_transform.proofs.WordLemmas.{kept, kept_small}
 use Rattle.whole_transform.proofs.Halves.{mirrored_sums, column_small}

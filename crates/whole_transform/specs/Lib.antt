@@ -1,3 +1,3 @@
-pub mod Passes
+pub mod inner
 pub mod Sums
 pub mod Transform

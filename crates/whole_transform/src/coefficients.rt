@@ -2,7 +2,7 @@
 
 ghost use Rattle.std.specs.Prelude.{◌≡◌, ◌≤◌, ◌<◌, ◌+◌, ◌*◌, ◌^◌, ℕ, pos, ◌-ℤ◌, slice_index};
 ghost use Rattle.std.specs.Int.RustNames.{unsigned_abs};
-ghost use Rattle.whole_transform.specs.Passes.{forward_of};
+ghost use Rattle.whole_transform.specs.inner.Passes.{forward_of};
 ghost use Rattle.whole_transform.specs.Sums.{at};
 ghost use Rattle.whole_transform.specs.Transform.{IsForward, cell, centred};
 

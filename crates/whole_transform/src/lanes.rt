@@ -3,7 +3,7 @@
 
 ghost use Rattle.std.specs.Prelude.{◌≡◌, ◌≢◌, ◌≤◌, ◌<◌, ◌+◌, ◌*◌, ◌^◌, ℕ, pos, ◌+ℤ◌, ◌-ℤ◌, ◌*ℤ◌, ◌≤ℤ◌, slice_index};
 ghost use Rattle.std.specs.Int.RustNames.{unsigned_abs};
-ghost use Rattle.whole_transform.specs.Passes.{inverse_of, lane_at};
+ghost use Rattle.whole_transform.specs.inner.Passes.{inverse_of, lane_at};
 ghost use Rattle.whole_transform.specs.Sums.{at};
 ghost use Rattle.whole_transform.specs.Transform.{IsInverseOfEach, floored, lane_cell, sample};
 

@@ -3,9 +3,11 @@
 
 ghost use Rattle.std.specs.Prelude.{◌≡◌, ◌≤◌, ◌<◌, ◌+◌, ◌-◌, ◌*◌, ◌^◌, ℕ, ℤ, pos, ◌+ℤ◌, ◌-ℤ◌, ◌*ℤ◌};
 ghost use Rattle.std.specs.Int.RustNames.{unsigned_abs};
-ghost use Rattle.whole_transform.specs.Passes.{even_of, forward_of, inverse_of, odd_of};
+ghost use Rattle.whole_transform.specs.inner.Passes.{even_of, forward_of, inverse_of, odd_of};
 ghost use Rattle.whole_transform.specs.Sums.{at, sum_to};
 ghost use Rattle.whole_transform.specs.Transform.{basis};
+
+use crate::basis::{C1, C2, C3, C4, C5, C6, C7};
 
 /// The sums of eight values with each basis number.
 #[inline(always)]
@@ -133,9 +135,9 @@ fn even_products(x: [i32; 4]) -> [i32; 4]
     let (sum, difference) = middle_products(a, b);
     [
         sum,
-        two_products(7568, c, 3135, d),
+        two_products(C2, c, C6, d),
         difference,
-        two_products(3135, c, -7568, d),
+        two_products(C6, c, -C2, d),
     ]
 }
 
@@ -149,7 +151,7 @@ fn middle_products(a: i32, b: i32) -> (i32, i32)
     ensures difference { result.1 ≡ (pos 5793 *ℤ a) -ℤ (pos 5793 *ℤ b) }
     ensures small { (unsigned_abs result.0 ≤ 2 * (8035 * 2 ^ 15)) × (unsigned_abs result.1 ≤ 2 * (8035 * 2 ^ 15)) }
 {
-    let (p, q) = (5793 * a, 5793 * b);
+    let (p, q) = (C4 * a, C4 * b);
     (p + q, p - q)
 }
 
@@ -188,10 +190,10 @@ fn odd_half(x: [i32; 4]) -> [i32; 4]
 {
     let [a, b, c, d] = x;
     [
-        four_products(8035, a, 6811, b, 4551, c, 1598, d),
-        four_products(6811, a, -1598, b, -8035, c, -4551, d),
-        four_products(4551, a, -8035, b, 1598, c, 6811, d),
-        four_products(1598, a, -4551, b, 6811, c, -8035, d),
+        four_products(C1, a, C3, b, C5, c, C7, d),
+        four_products(C3, a, -C7, b, -C1, c, -C5, d),
+        four_products(C5, a, -C1, b, C7, c, C3, d),
+        four_products(C7, a, -C5, b, C3, c, -C1, d),
     ]
 }
 

@@ -2,9 +2,26 @@
 
 ghost use Rattle.std.specs.Prelude.{◌≡◌, ◌≤◌, ◌<◌, ◌+◌, ◌-◌, ◌*◌, ◌^◌, ℕ, ℤ, pos, ◌+ℤ◌, ◌-ℤ◌, ◌*ℤ◌};
 ghost use Rattle.std.specs.Int.RustNames.{unsigned_abs};
-ghost use Rattle.whole_transform.specs.Passes.{forward_of, inverse_of};
+ghost use Rattle.whole_transform.specs.inner.Passes.{forward_of, inverse_of};
 ghost use Rattle.whole_transform.specs.Sums.{at, sum_to};
 ghost use Rattle.whole_transform.specs.Transform.{basis};
+
+use crate::basis;
+
+// c[1] to c[7] in 64 bits.
+const C1: i64 = basis::C1 as i64;
+
+const C2: i64 = basis::C2 as i64;
+
+const C3: i64 = basis::C3 as i64;
+
+const C4: i64 = basis::C4 as i64;
+
+const C5: i64 = basis::C5 as i64;
+
+const C6: i64 = basis::C6 as i64;
+
+const C7: i64 = basis::C7 as i64;
 
 /// The sums of eight values with each basis number.
 #[inline(always)]
@@ -98,10 +115,10 @@ fn even_products(x: [i64; 4]) -> [i64; 4]
 {
     let [a, b, c, d] = x;
     [
-        two_products(5793, a, 5793, b),
-        two_products(7568, c, 3135, d),
-        two_products(5793, a, -5793, b),
-        two_products(3135, c, -7568, d),
+        two_products(C4, a, C4, b),
+        two_products(C2, c, C6, d),
+        two_products(C4, a, -C4, b),
+        two_products(C6, c, -C2, d),
     ]
 }
 
@@ -126,10 +143,10 @@ fn odd_half(x: [i64; 4]) -> [i64; 4]
 {
     let [a, b, c, d] = x;
     [
-        four_products(8035, a, 6811, b, 4551, c, 1598, d),
-        four_products(6811, a, -1598, b, -8035, c, -4551, d),
-        four_products(4551, a, -8035, b, 1598, c, 6811, d),
-        four_products(1598, a, -4551, b, 6811, c, -8035, d),
+        four_products(C1, a, C3, b, C5, c, C7, d),
+        four_products(C3, a, -C7, b, -C1, c, -C5, d),
+        four_products(C5, a, -C1, b, C7, c, C3, d),
+        four_products(C7, a, -C5, b, C3, c, -C1, d),
     ]
 }
 

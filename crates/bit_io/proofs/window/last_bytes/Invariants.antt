@@ -1,5 +1,5 @@
 use Rattle.std.proofs.Common.{length, ◌-◌, ◌≡◌, ◌+◌, ◌*◌, ◌≤◌}
-use Rattle.bit_io.specs.Window.{IsLoaded, bits_left}
+use Rattle.bit_io.specs.inner.Window.{IsLoaded, bits_left}
 use Rattle.bit_io.proofs.window.last_bytes.Given as goal
 
 abbrev pub invariant-loop-window : goal.invariant-loop-window

@@ -3,7 +3,7 @@ use Rattle.std.specs.Int.{to_be_bytes, w32}
 use Rattle.std.proofs.lemmas.List.{length-take-le}
 use Rattle.std.proofs.lemmas.Slice.{take-put_mid, drop-put_mid}
 use Rattle.bit_io.specs.Bits.{bits_of}
-use Rattle.bit_io.specs.Laws.{bits_of-append, bits_of-taken_word}
+use Rattle.bit_io.specs.laws.BitLaws.{bits_of-append, bits_of-taken_word}
 use Rattle.bit_io.proofs.writer.store.Goals as goal
 
 pub returns-clause-stored : goal.returns-clause-stored

@@ -2,7 +2,7 @@ use Rattle.std.proofs.Common.{arith}
 use Rattle.local_sets.specs.Sets.{item_bytes}
 use Rattle.local_sets.specs.declared.set.Item.{Item}
 use Rattle.local_sets.specs.declared.value.Value.TheVariants.{Byte}
-use Rattle.local_sets.specs.Writes.{within}
+use Rattle.local_sets.specs.laws.Writes.{within}
 use Rattle.local_sets.proofs.set.items_len.Goals as goal
 
 pub overflow_add-len : goal.overflow_add-len

@@ -1,7 +1,7 @@
 use Rattle.std.proofs.Common.{ℕ, ◌+◌, List, ◌++◌, length, arith, refl, ap, ◌∙◌}
 use Rattle.byteorder.specs.Endian.{big_bytes}
 use Rattle.rec_bytes.specs.Places.{with_bytes}
-use Rattle.rec_bytes.specs.Laws.{with_bytes-more}
+use Rattle.rec_bytes.specs.laws.Places.{with_bytes-more}
 use Rattle.local_sets.specs.Values.{value_bytes}
 use Rattle.local_sets.proofs.set.put_item.Goals as goal
 

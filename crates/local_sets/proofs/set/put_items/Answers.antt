@@ -1,7 +1,7 @@
 use Rattle.local_sets.specs.Sets.{item_bytes}
 use Rattle.local_sets.specs.declared.set.Item.{Item}
 use Rattle.local_sets.specs.declared.value.Value.TheVariants.{Byte}
-use Rattle.local_sets.specs.Writes.{room_for, one_more}
+use Rattle.local_sets.specs.laws.Writes.{room_for, one_more}
 use Rattle.local_sets.proofs.set.put_items.Goals as goal
 
 none : Item

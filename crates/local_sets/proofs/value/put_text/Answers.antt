@@ -1,7 +1,7 @@
 use Rattle.std.proofs.Common.{◌≡◌, ℕ, get_or, arith, ap, ◌∙◌}
 use Rattle.byteorder.specs.Endian.{big_bytes}
 use Rattle.rec_bytes.specs.Places.{with_bytes}
-use Rattle.local_sets.specs.Writes.{room_for, one_more}
+use Rattle.local_sets.specs.laws.Writes.{room_for, one_more}
 use Rattle.local_sets.proofs.value.put_text.Goals as goal
 
 pub put_short-end-requires : goal.put_short-end-requires

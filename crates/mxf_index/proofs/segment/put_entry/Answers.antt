@@ -1,7 +1,7 @@
 use Rattle.std.proofs.Common.{ℕ, ◌+◌, refl, arith}
 use Rattle.byteorder.specs.Endian.{big_bytes}
 use Rattle.mxf_index.specs.declared.tags.TheConstants.{RANDOM_ACCESS}
-use Rattle.rec_bytes.specs.Laws.{with_bytes-three}
+use Rattle.rec_bytes.specs.laws.Places.{with_bytes-three}
 use Rattle.mxf_index.proofs.segment.put_entry.Goals as goal
 
 pub returns-clause-written : goal.returns-clause-written

@@ -1,6 +1,6 @@
 use Rattle.std.proofs.Common.{◌≡◌, ℕ, List, ◌++◌, length, length-append, replicate, ◌∙◌, arith, rules}
 use Rattle.byteorder.specs.Endian.{big_bytes}
-use Rattle.rec_bytes.specs.Laws.{with_bytes-more, with_bytes-whole}
+use Rattle.rec_bytes.specs.laws.Places.{with_bytes-more, with_bytes-whole}
 use Rattle.mxf_index.proofs.segment.segment_id.Goals as goal
 
 pub returns-clause-joined : goal.returns-clause-joined

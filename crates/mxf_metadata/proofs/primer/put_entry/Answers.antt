@@ -1,6 +1,6 @@
 use Rattle.std.proofs.Common.{ℕ, ◌+◌, List, ◌++◌, arith, refl}
 use Rattle.byteorder.specs.Endian.{big_bytes}
-use Rattle.rec_bytes.specs.Laws.{with_bytes-more}
+use Rattle.rec_bytes.specs.laws.Places.{with_bytes-more}
 use Rattle.mxf_metadata.specs.declared.labels.TheConstants.{TAG_LABEL_HEAD}
 use Rattle.mxf_metadata.proofs.primer.put_entry.Goals as goal
 

@@ -1,8 +1,8 @@
 use Rattle.std.proofs.Common.{ℕ, List, ◌++◌, subst, arith}
 use Rattle.rec_bytes.specs.Views.{view}
-use Rattle.mxf_metadata.specs.Identifiers.{umid}
+use Rattle.mxf_names.specs.Identifiers.{umid}
 use Rattle.mxf_metadata.specs.Metadata.{storage_sets, timecode_track, picture_track, material_sets}
-use Rattle.mxf_metadata.specs.Writing.{Written}
+use Rattle.mxf_metadata.specs.inner.Writing.{Written}
 use Rattle.mxf_metadata.proofs.Joins.{joined}
 use Rattle.mxf_metadata.proofs.writing.put_material_sets.Goals as goal
 

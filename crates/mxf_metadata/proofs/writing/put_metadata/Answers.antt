@@ -1,10 +1,10 @@
 use Rattle.std.proofs.Common.{ℕ, List, arith}
 use Rattle.std.specs.List.{flat_map}
 use Rattle.rec_bytes.specs.Views.{view}
-use Rattle.rec_bytes.specs.Laws.{with_bytes-more}
+use Rattle.rec_bytes.specs.laws.Places.{with_bytes-more}
 use Rattle.mxf_metadata.specs.Metadata.{set_bytes, sets, metadata}
 use Rattle.mxf_metadata.specs.Primer.{primer}
-use Rattle.mxf_metadata.specs.Lengths.{length_primer}
+use Rattle.mxf_metadata.specs.laws.Lengths.{length_primer}
 use Rattle.mxf_metadata.proofs.writing.put_metadata.Goals as goal
 
 pub returns-clause-written : goal.returns-clause-written

@@ -3,8 +3,8 @@ use Rattle.std.specs.List.{flat_map}
 use Rattle.klv.specs.Items.{length_bytes}
 use Rattle.rec_bytes.specs.Places.{with_bytes}
 use Rattle.mxf_partitions.specs.RandomIndex.{entry_bytes, random_index_head, random_index_end}
-use Rattle.mxf_partitions.specs.Laws.{length-entries, random_index_pack-pieces}
-use Rattle.rec_bytes.specs.Laws.{with_bytes-three}
+use Rattle.mxf_partitions.specs.laws.Lengths.{length-entries, random_index_pack-pieces}
+use Rattle.rec_bytes.specs.laws.Places.{with_bytes-three}
 use Rattle.mxf_partitions.proofs.random_index.put_random_index.Goals as goal
 
 pub returns-clause-written : goal.returns-clause-written
@@ -20,5 +20,7 @@ returns-clause-written c =
     let end : c.put_entries-end.result ≡ 20 + 12 * n = omega (arith, behind, c.put_entries-end.ensures.behind) in
     let both : length (head ++ middle) ≡ 20 + 12 * n = omega (arith, length-append head middle, length-entries entries) in
     let all : c.put_random_index_end.new.out ≡ with_bytes old 0 ((head ++ middle) ++ random_index_end n) =
-    with_bytes-three old 0 first.result c.put_entries-end.result head middle (random_index_end n) first.new.out c.put_entries-end.new.out c.put_random_index_end.new.out behind (omega (arith, end, both)) (omega (arith, behind, c.requires.room)) (omega (arith, end, c.requires.room)) first.ensures.written c.put_entries-end.ensures.written c.put_random_index_end.ensures.written in
+    with_bytes-three old 0 first.result c.put_entries-end.result head middle (random_index_end n) first.new.out c.put_entries-end.new.out
+    c.put_random_index_end.new.out behind (omega (arith, end, both)) (omega (arith, behind, c.requires.room)) (omega (arith, end, c.requires.room))
+    first.ensures.written c.put_entries-end.ensures.written c.put_random_index_end.ensures.written in
     all ∙ ap (with_bytes old 0) (append_assoc head middle (random_index_end n) ∙ sym (random_index_pack-pieces entries))

@@ -1,4 +1,4 @@
-use Rattle.mxf_take_file.specs.Laws.Places.{entries_are}
+use Rattle.mxf_take_file.specs.laws.Places.{entries_are}
 use Rattle.mxf_take_file.proofs.laws.random_index_names_packs.Goals as goal
 
 pub returns : goal.returns

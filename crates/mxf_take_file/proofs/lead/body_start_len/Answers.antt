@@ -2,9 +2,9 @@ use Rattle.std.proofs.Common.{◌≡◌, ℕ, ◌-◌, length, ap, arith}
 use Rattle.rec_bytes.specs.Configuration.{Fields}
 use Rattle.rec_bytes.specs.Views.{view}
 use Rattle.mxf_take_file.specs.Extents.{Extents}
-use Rattle.mxf_take_file.specs.Kept.{extents_kept}
+use Rattle.mxf_take_file.specs.inner.Kept.{extents_kept}
 use Rattle.mxf_take_file.specs.Segments.{segment_size, whole_first}
-use Rattle.mxf_take_file.specs.Laws.Parts.{kept_whole, body_start_len_is}
+use Rattle.mxf_take_file.specs.laws.Parts.{kept_whole, body_start_len_is}
 use Rattle.mxf_take_file.proofs.lead.body_start_len.Goals as goal
 
 pub returns-clause-size : goal.returns-clause-size

@@ -2,8 +2,8 @@ use Rattle.std.proofs.Common.{rules, ◌≡◌, ℕ, ◌%◌, length, refl, sym,
 use Rattle.rec_bytes.specs.Configuration.{Fields}
 use Rattle.rec_bytes.specs.Views.{view}
 use Rattle.mxf_take_file.specs.Extents.{Extents}
-use Rattle.mxf_take_file.specs.Kept.{extents_kept}
-use Rattle.mxf_take_file.specs.Laws.Parts.{start_due, start_not_due}
+use Rattle.mxf_take_file.specs.inner.Kept.{extents_kept}
+use Rattle.mxf_take_file.specs.laws.Parts.{start_due, start_not_due}
 use Rattle.mxf_take_file.proofs.lead.lead_len.Goals as goal
 
 pub returns-then-places-from-ne0 : goal.returns-then-places-from-ne0

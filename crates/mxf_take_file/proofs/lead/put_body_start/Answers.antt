@@ -1,16 +1,16 @@
 use Rattle.std.proofs.Common.{◌≡◌, ℕ, ◌+◌, List, length, refl, ap, ◌∙◌, arith}
 use Rattle.rec_bytes.specs.Configuration.{Fields}
 use Rattle.rec_bytes.specs.Places.{with_bytes}
-use Rattle.rec_bytes.specs.Laws.{with_bytes-more}
+use Rattle.rec_bytes.specs.laws.Places.{with_bytes-more}
 use Rattle.rec_bytes.specs.Views.{view}
 use Rattle.mxf_partitions.specs.Partitions.{partition_pack}
 use Rattle.mxf_partitions.specs.declared.partition.Partition.{Partition}
 use Rattle.mxf_take_file.specs.Extents.{Extents}
-use Rattle.mxf_take_file.specs.Kept.{extents_kept}
+use Rattle.mxf_take_file.specs.inner.Kept.{extents_kept}
 use Rattle.mxf_take_file.specs.Layout.{body_start}
 use Rattle.mxf_take_file.specs.Packs.{body_pack}
 use Rattle.mxf_take_file.specs.Segments.{segment_from, whole_first}
-use Rattle.mxf_take_file.specs.Laws.Parts.{body_pack_len, body_pack_labels, body_start_parts}
+use Rattle.mxf_take_file.specs.laws.Parts.{body_pack_len, body_pack_labels, body_start_parts}
 use Rattle.mxf_take_file.proofs.lead.put_body_start.Goals as goal
 
 pub put_pack-at-requires-clause-label : goal.put_pack-at-requires-clause-label

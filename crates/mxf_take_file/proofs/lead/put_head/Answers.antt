@@ -1,17 +1,17 @@
 use Rattle.std.proofs.Common.{◌≡◌, ℕ, List, length, refl, sym, ap, ◌∙◌, arith}
 use Rattle.rec_bytes.specs.Configuration.{Fields}
 use Rattle.rec_bytes.specs.Places.{with_bytes}
-use Rattle.rec_bytes.specs.Laws.{with_bytes-more, with_bytes-whole}
+use Rattle.rec_bytes.specs.laws.Places.{with_bytes-more, with_bytes-whole}
 use Rattle.rec_bytes.specs.Views.{view}
 use Rattle.mxf_partitions.specs.Partitions.{partition_pack}
 use Rattle.mxf_partitions.specs.declared.partition.Partition.{Partition}
-use Rattle.mxf_partitions.specs.Laws.{length-partition_pack}
-use Rattle.mxf_metadata.specs.Identifiers.{ids_of}
+use Rattle.mxf_partitions.specs.laws.Lengths.{length-partition_pack}
+use Rattle.mxf_names.specs.Identifiers.{ids_of}
 use Rattle.mxf_metadata.specs.Metadata.{metadata}
 use Rattle.std.proofs.Common.{None}
 use Rattle.mxf_take_file.specs.Layout.{head}
 use Rattle.mxf_take_file.specs.Packs.{header_pack}
-use Rattle.mxf_take_file.specs.Laws.Parts.{head_len_is}
+use Rattle.mxf_take_file.specs.laws.Parts.{head_len_is}
 use Rattle.mxf_take_file.proofs.lead.put_head.Goals as goal
 
 pub put_pack-at-requires-clause-room : goal.put_pack-at-requires-clause-room

@@ -1,13 +1,13 @@
 use Rattle.std.proofs.Common.{◌≡◌, ℕ, ◌+◌, List, length, sym, ◌∙◌, arith}
 use Rattle.rec_bytes.specs.Configuration.{Fields}
-use Rattle.rec_bytes.specs.Laws.{with_bytes-more, with_bytes-whole}
+use Rattle.rec_bytes.specs.laws.Places.{with_bytes-more, with_bytes-whole}
 use Rattle.rec_bytes.specs.Views.{view}
 use Rattle.klv.specs.Items.{klv_head}
-use Rattle.klv.specs.declared.picture.TheConstants.{PICTURE_ELEMENT_KEY}
+use Rattle.mxf_names.specs.declared.keys.TheConstants.{PICTURE_ELEMENT_KEY}
 use Rattle.mxf_take_file.specs.Extents.{Extents}
-use Rattle.mxf_take_file.specs.Kept.{extents_kept}
+use Rattle.mxf_take_file.specs.inner.Kept.{extents_kept}
 use Rattle.mxf_take_file.specs.Layout.{start_of, lead_of}
-use Rattle.mxf_take_file.specs.Laws.Parts.{lead_len_by}
+use Rattle.mxf_take_file.specs.laws.Parts.{lead_len_by}
 use Rattle.mxf_take_file.proofs.lead.put_lead.Goals as goal
 
 pub put_start-at-requires-clause-room : goal.put_start-at-requires-clause-room

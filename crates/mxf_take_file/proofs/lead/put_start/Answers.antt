@@ -3,8 +3,8 @@ use Rattle.rec_bytes.specs.Configuration.{Fields}
 use Rattle.rec_bytes.specs.Places.{with_bytes}
 use Rattle.rec_bytes.specs.Views.{view}
 use Rattle.mxf_take_file.specs.Extents.{Extents}
-use Rattle.mxf_take_file.specs.Kept.{extents_kept}
-use Rattle.mxf_take_file.specs.Laws.Parts.{start_due, start_not_due}
+use Rattle.mxf_take_file.specs.inner.Kept.{extents_kept}
+use Rattle.mxf_take_file.specs.laws.Parts.{start_due, start_not_due}
 use Rattle.mxf_take_file.proofs.SegmentLemmas.{with_nothing}
 use Rattle.mxf_take_file.proofs.lead.put_start.Goals as goal
 

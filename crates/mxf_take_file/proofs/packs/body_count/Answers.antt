@@ -1,7 +1,7 @@
 use Rattle.std.proofs.Common.{rules, ◌≡◌, ◌≤◌, ℕ, ◌∙◌, ap, sym, subst}
 use Rattle.std.specs.Int.{div_ceil}
 use Rattle.mxf_take_file.specs.Extents.{body_count}
-use Rattle.mxf_take_file.specs.Laws.Counts.{quotient_few}
+use Rattle.mxf_take_file.specs.laws.Counts.{quotient_few}
 use Rattle.mxf_take_file.proofs.packs.body_count.Goals as goal
 
 pub returns-clause-count : goal.returns-clause-count

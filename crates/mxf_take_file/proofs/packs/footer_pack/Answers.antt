@@ -2,11 +2,11 @@ use Rattle.std.proofs.Common.{◌≡◌, ℕ, ◌-◌, length, refl, sym, ap, �
 use Rattle.rec_bytes.specs.Configuration.{Fields}
 use Rattle.rec_bytes.specs.Views.{view}
 use Rattle.mxf_take_file.specs.Extents.{Extents}
-use Rattle.mxf_take_file.specs.Kept.{extents_kept}
+use Rattle.mxf_take_file.specs.inner.Kept.{extents_kept}
 use Rattle.mxf_take_file.specs.Packs.{footer_pack}
 use Rattle.mxf_take_file.specs.Segments.{segment_from, segment_size, last_first}
-use Rattle.mxf_take_file.specs.Laws.Parts.{segment_len_is, kept_whole}
-use Rattle.mxf_take_file.specs.Laws.Counts.{last_few}
+use Rattle.mxf_take_file.specs.laws.Parts.{segment_len_is, kept_whole}
+use Rattle.mxf_take_file.specs.laws.Counts.{last_few}
 use Rattle.mxf_take_file.proofs.packs.footer_pack.Goals as goal
 
 pub returns : goal.returns

@@ -1,6 +1,6 @@
 use Rattle.std.proofs.Common.{rules, ◌≡◌, ◌<◌, ◌*◌, ◌-◌, ◌^◌, ℕ, length, ap₂, arith}
 use Rattle.mxf_take_file.specs.Extents.{body_count}
-use Rattle.mxf_take_file.specs.Laws.Counts.{count_some, last_within, last_of_none}
+use Rattle.mxf_take_file.specs.laws.Counts.{count_some, last_within, last_of_none}
 use Rattle.mxf_take_file.proofs.packs.last_first.Goals as goal
 
 pub returns-then-is_empty-clause-first : goal.returns-then-is_empty-clause-first

@@ -1,5 +1,5 @@
 use Rattle.std.proofs.Common.{◌≡◌, take, drop, map}
-use Rattle.take_core.specs.declared.place.Place.{Place}
+use Rattle.take_layout.specs.declared.place.Place.{Place}
 use Rattle.mxf_take_file.proofs.put.gather.Given as goal
 
 abbrev pub invariant-loop-k : goal.invariant-loop-k

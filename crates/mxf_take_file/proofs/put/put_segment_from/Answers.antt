@@ -2,13 +2,13 @@ use Rattle.std.proofs.Common.{ℕ, ◌-◌, ◌<◌, List, length, take, drop, s
 use Rattle.std.proofs.lemmas.List.{take_rest, length-drop}
 use Rattle.rec_bytes.specs.Configuration.{Fields}
 use Rattle.rec_bytes.specs.Places.{with_bytes}
-use Rattle.rec_bytes.specs.Laws.{with_bytes-part}
+use Rattle.rec_bytes.specs.laws.Places.{with_bytes-part}
 use Rattle.rec_bytes.specs.Views.{view}
-use Rattle.mxf_metadata.specs.declared.ids.Ids.{Ids}
+use Rattle.mxf_names.specs.declared.ids.Ids.{Ids}
 use Rattle.mxf_index.specs.Segments.{index_segment}
-use Rattle.mxf_take_file.specs.Kept.{extents_kept}
+use Rattle.mxf_take_file.specs.inner.Kept.{extents_kept}
 use Rattle.mxf_take_file.specs.Segments.{segment_from}
-use Rattle.mxf_take_file.specs.Laws.Parts.{kept_whole}
+use Rattle.mxf_take_file.specs.laws.Parts.{kept_whole}
 use Rattle.mxf_take_file.proofs.SegmentLemmas.{none_from, with_nothing, some_from, some_len}
 use Rattle.mxf_take_file.proofs.put.put_segment_from.Goals as goal
 

@@ -1,12 +1,12 @@
 use Rattle.std.proofs.Common.{◌≡◌, ℕ, ◌*◌, ◌<◌, List, length, ap, ◌∙◌, arith}
 use Rattle.std.specs.List.{flat_map}
 use Rattle.rec_bytes.specs.Places.{with_bytes}
-use Rattle.rec_bytes.specs.Laws.{with_bytes-more}
+use Rattle.rec_bytes.specs.laws.Places.{with_bytes-more}
 use Rattle.mxf_partitions.specs.RandomIndex.{entry_bytes}
 use Rattle.mxf_take_file.specs.Extents.{Extents, body_count}
-use Rattle.mxf_take_file.specs.Kept.{extents_kept}
+use Rattle.mxf_take_file.specs.inner.Kept.{extents_kept}
 use Rattle.mxf_take_file.specs.Packs.{body_entries, entry}
-use Rattle.mxf_index.specs.declared.tags.TheConstants.{ESSENCE_STREAM}
+use Rattle.mxf_names.specs.declared.streams.TheConstants.{ESSENCE_STREAM}
 use Rattle.mxf_take_file.proofs.TailLemmas.{bodies_len, bodies_more, body_within}
 use Rattle.mxf_take_file.proofs.tail.put_bodies.Goals as goal
 

@@ -3,11 +3,11 @@ use Rattle.std.specs.List.{flat_map}
 use Rattle.std.proofs.lemmas.List.{length-append}
 use Rattle.rec_bytes.specs.Configuration.{Fields}
 use Rattle.rec_bytes.specs.Places.{with_bytes}
-use Rattle.rec_bytes.specs.Laws.{with_bytes-more}
+use Rattle.rec_bytes.specs.laws.Places.{with_bytes-more}
 use Rattle.rec_bytes.specs.Views.{view}
 use Rattle.mxf_partitions.specs.RandomIndex.{entry_bytes, random_index_head, random_index_end}
 use Rattle.mxf_take_file.specs.Extents.{Extents, body_count}
-use Rattle.mxf_take_file.specs.Kept.{extents_kept}
+use Rattle.mxf_take_file.specs.inner.Kept.{extents_kept}
 use Rattle.mxf_take_file.specs.Packs.{body_entries, entry}
 use Rattle.mxf_take_file.proofs.TailLemmas.{bodies_len, packs_joined, packs_len, packs_head_len}
 use Rattle.mxf_take_file.proofs.tail.put_packs.Goals as goal

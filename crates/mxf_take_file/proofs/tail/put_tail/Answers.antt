@@ -2,20 +2,20 @@ use Rattle.std.proofs.Common.{◌≡◌, ℕ, ◌+◌, List, ◌++◌, length, s
 use Rattle.std.proofs.lemmas.List.{length-append}
 use Rattle.rec_bytes.specs.Configuration.{Fields}
 use Rattle.rec_bytes.specs.Places.{with_bytes}
-use Rattle.rec_bytes.specs.Laws.{with_bytes-more, with_bytes-whole}
+use Rattle.rec_bytes.specs.laws.Places.{with_bytes-more, with_bytes-whole}
 use Rattle.rec_bytes.specs.Views.{view}
 use Rattle.mxf_partitions.specs.Partitions.{partition_pack}
 use Rattle.mxf_partitions.specs.RandomIndex.{random_index_pack}
 use Rattle.mxf_partitions.specs.declared.partition.Partition.{Partition}
-use Rattle.mxf_metadata.specs.Identifiers.{ids_of}
+use Rattle.mxf_names.specs.Identifiers.{ids_of}
 use Rattle.mxf_metadata.specs.Metadata.{metadata}
 use Rattle.mxf_take_file.specs.Extents.{Extents}
-use Rattle.mxf_take_file.specs.Kept.{extents_kept}
+use Rattle.mxf_take_file.specs.inner.Kept.{extents_kept}
 use Rattle.mxf_take_file.specs.Layout.{tail_of}
 use Rattle.mxf_take_file.specs.Packs.{pack_entries, footer_pack}
 use Rattle.mxf_take_file.specs.Segments.{segment_from, last_first}
-use Rattle.mxf_take_file.specs.Laws.Counts.{last_few}
-use Rattle.mxf_take_file.specs.Laws.Parts.{metadata_len}
+use Rattle.mxf_take_file.specs.laws.Counts.{last_few}
+use Rattle.mxf_take_file.specs.laws.Parts.{metadata_len}
 use Rattle.mxf_take_file.proofs.TailLemmas.{footer_pack_len, footer_pack_labels, tail_parts}
 use Rattle.mxf_take_file.proofs.tail.put_tail.Goals as goal
 

@@ -2,10 +2,10 @@ use Rattle.std.proofs.Common.{◌≡◌, ℕ, ◌-◌, length, ap, arith}
 use Rattle.rec_bytes.specs.Configuration.{Fields}
 use Rattle.rec_bytes.specs.Views.{view}
 use Rattle.mxf_take_file.specs.Extents.{Extents}
-use Rattle.mxf_take_file.specs.Kept.{extents_kept}
+use Rattle.mxf_take_file.specs.inner.Kept.{extents_kept}
 use Rattle.mxf_take_file.specs.Segments.{segment_size, last_first}
-use Rattle.mxf_take_file.specs.Laws.Counts.{last_few}
-use Rattle.mxf_take_file.specs.Laws.Parts.{kept_whole, tail_len_is}
+use Rattle.mxf_take_file.specs.laws.Counts.{last_few}
+use Rattle.mxf_take_file.specs.laws.Parts.{kept_whole, tail_len_is}
 use Rattle.mxf_take_file.proofs.tail.tail_len.Goals as goal
 
 pub segment_size-requires : goal.segment_size-requires

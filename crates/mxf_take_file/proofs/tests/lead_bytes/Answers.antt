@@ -1,7 +1,7 @@
 use Rattle.std.proofs.Common.{rules, ◌≡◌, length, sym, ◌∙◌}
 use Rattle.rec_bytes.specs.Views.{view}
-use Rattle.mxf_take_file.specs.Kept.{extents_kept}
-use Rattle.mxf_take_file.specs.Laws.Parts.{lead_len_by}
+use Rattle.mxf_take_file.specs.inner.Kept.{extents_kept}
+use Rattle.mxf_take_file.specs.laws.Parts.{lead_len_by}
 use Rattle.mxf_take_file.proofs.tests.lead_bytes.Goals as goal
 
 pub put_lead-requires-clause-room : goal.put_lead-requires-clause-room

@@ -13,7 +13,9 @@ loop-at-preserved g c =
     let most : c.in_ok-came.came ≤ length (drop at out) = rw take_rest at c.in_ok-came.ensures.most in
     record {
       place = omega (arith, same_len_mid at (length out - at) out piece c.read.auto.out, length-drop at out);
-      filled = Filled-more _ _ _ out piece (post_of at (length out - at) out) at c.in_ok-came.came c.read.result c.in_ok-came.was c.loop-at.invariant.place (omega arith) c.loop-at.invariant.filled c.read.ensures.read;
+      filled =
+          Filled-more _ _ _ out piece (post_of at (length out - at) out) at c.in_ok-came.came c.read.result c.in_ok-came.was c.loop-at.invariant.place
+          (omega arith) c.loop-at.invariant.filled c.read.ensures.read;
       count = c.in_ok-came.ensures.cause.kept ∙ c.loop-at.invariant.count;
     }
 
@@ -23,4 +25,5 @@ returns-then-came-eq0-clause-filled g c =
     let out = c.loop-at.out in
     let piece = c.read.new.out in
     let long : length piece ≡ length (drop at out) = rw take_rest at c.read.auto.out in
-    FillsFrom-end _ _ _ out piece (post_of at (length out - at) out) at c.in_ok-came.came c.read.result c.in_ok-came.was c.if-came-eq0.true c.loop-at-test.true (omega (arith, length-drop at out)) c.loop-at.invariant.filled c.read.ensures.read
+    FillsFrom-end _ _ _ out piece (post_of at (length out - at) out) at c.in_ok-came.came c.read.result c.in_ok-came.was c.if-came-eq0.true
+    c.loop-at-test.true (omega (arith, length-drop at out)) c.loop-at.invariant.filled c.read.ensures.read

@@ -17,5 +17,6 @@ loop-at-preserved g c =
 pub returns-in_err-taken-clause-written : goal.returns-in_err-taken-clause-written
 returns-in_err-taken-clause-written g c =
     let p = err_from_is_err_and c.from_residual.result c.from_residual.ensures.1 in
-    rw p.1 (Writes-front _ _ _ c.args.bytes.now c.loop-at.at c.write.result c.in_err-taken.field-0.0 _ c.in_err-taken.was c.loop-at.invariant.wrote
+    rw p.1 (Writes-front _ _ _ c.args.bytes.now c.loop-at.at c.write.result c.in_err-taken.field-0.0 _ (omega arith) c.in_err-taken.was
+    c.loop-at.invariant.wrote
     (rw take_rest at c.write.ensures.written))

@@ -1,5 +1,5 @@
 use Rattle.std.proofs.Common.{◌≡◌, ◌≤◌, ◌+◌, ◌-◌, vec_len}
-use Rattle.raw_feed.specs.declared.layout.TheConstants.{MAX_FEED}
+use Rattle.raw_feed.specs.declared.limits.TheConstants.{MAX_FEED}
 use Rattle.raw_feed.proofs.UnitLemmas.{Gathered}
 use Rattle.raw_feed.proofs.unit.read_bytes.Given as goal
 

@@ -1,7 +1,7 @@
 use Rattle.std.proofs.Common.{◌≡◌, List, ℕ, None, sym, subst, ◌∙◌}
 use Rattle.rec_bytes.specs.Configuration.{Fields, fields_of, first_broken, picture_rules, coding_rules, take_rules, zero_rules, spelling}
+use Rattle.rec_bytes.specs.laws.Spellings.{spelled_once}
 use Rattle.rec_bytes.proofs.Rules.{zero_is}
-use Rattle.rec_bytes.proofs.Spelling.{spelled_once}
 use Rattle.rec_bytes.proofs.config_bytes.read_config.Goals as goal
 
 pub returns-clause-spelled : goal.returns-clause-spelled

@@ -1,5 +1,5 @@
 use Rattle.bit_io.specs.Bits.{bits}
-use Rattle.bit_io.specs.Window.{highest, bits_left}
+use Rattle.bit_io.specs.inner.Window.{highest, bits_left}
 use Rattle.bit_io.proofs.reader.BitReader.new.Goals as goal
 
 pub returns-clause-all : goal.returns-clause-all

@@ -1,6 +1,6 @@
 use Rattle.std.proofs.Common.{◌≡◌, ◌≤◌, ◌++◌, ℕ, List, true, false, length, take, ◌∙◌, ap, sym, arith, refl}
 use Rattle.std.proofs.lemmas.List.{length-take-le}
-use Rattle.bit_io.specs.Window.{bits_left}
+use Rattle.bit_io.specs.inner.Window.{bits_left}
 use Rattle.bit_io.proofs.WindowSteps.{length-left, passed_left, passed_loaded}
 use Rattle.bit_io.proofs.reader.BitReader.skip.Goals as goal
 

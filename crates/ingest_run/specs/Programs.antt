@@ -1,0 +1,66 @@
+-- What a program writes, answers and says of its answer (own). docs/FORMATS.md, "Words" and "Statuses".
+use Rattle.std.specs.Prelude.{◌≡◌, ◌⊎◌, ℕ, List, [], ◌++◌, Option, Some, None, Result, Ok, Err}
+use Rattle.clap.specs.Walk.{Text}
+use Rattle.rec_bytes.specs.Configuration.{Fields}
+use Rattle.rec_bytes.specs.Faults.{Rose}
+use Rattle.rec_bytes.specs.declared.status.Status.{Status}
+use Rattle.run_parts.specs.Statuses.{answer, memory_answer, words_answer, sink_answer}
+use Rattle.ingest_run.specs.declared.words.WordsFault.{WordsFault}
+use Rattle.ingest_run.specs.declared.words.WordsFault.TheVariants.{Memory, Faulty}
+use Rattle.ingest_run.specs.Causes.{HasCauses}
+use Rattle.ingest_run.specs.Helps.{help_of}
+use Rattle.ingest_run.specs.Messages.{Taken, Reports, messages_of}
+use Rattle.ingest_run.specs.Runs.{Outside, Gains, Lacks, Runs, Says, Paces}
+use Rattle.ingest_run.specs.Words.{command_of}
+
+-- nothing was read and nothing was written
+pub record StaysIdle (before now : Outside) : Type 0 where
+  pub told : now.told ≡ before.told
+  pub written : now.written ≡ before.written
+
+-- the one call of a command: what it wrote and answered, that faulty words touch nothing, and the cause of the answer
+pub record AnswersCommand (closed growing : Fields → List (List ℕ) → List ℕ) (words : List Text) (before now : Outside)
+    (status : Status) : Type 0 where
+  pub ran : Runs (Says closed words) (Paces growing words) before now status
+  pub idle : command_of words ≡ None → StaysIdle before now
+  pub cause : HasCauses words before.counts now.counts status
+
+-- all was done and the whole text was written, or the sink failed and lacks a part of it
+abbrev pub EndsHelp : List ℕ → Outside → Outside → Status → Type 0
+EndsHelp missing before now status =
+    ((status ≡ answer 0 0 0 0) × (missing ≡ []) × (now.counts ≡ before.counts))
+    ⊎ ((status ≡ sink_answer now.counts.sink) × Rose before.counts.sink now.counts.sink × Lacks before.written missing)
+
+-- a text of help was written, or a front of it where the sink failed; nothing was read
+pub record AnswersHelp (text : List ℕ) (before now : Outside) (status : Status) : Type 0 where
+  pub told : now.told ≡ before.told
+  pub source : now.counts.source ≡ before.counts.source
+  pub written : List ℕ
+  pub missing : List ℕ
+  pub front : text ≡ written ++ missing
+  pub gains : Gains before.written now.written written
+  pub ends : EndsHelp missing before now status
+
+-- the answer where the words can't be read
+abbrev pub fault_answer : WordsFault → Status
+fault_answer Memory = memory_answer
+fault_answer Faulty = words_answer
+
+-- help goes before any command
+abbrev pub AnswersFor : (Fields → List (List ℕ) → List ℕ) → (Fields → List (List ℕ) → List ℕ) → Option (List ℕ) → List Text
+    → Outside → Outside → Status → Type 0
+AnswersFor closed growing (Some text) words before now status = AnswersHelp text before now status
+AnswersFor closed growing None words before now status = AnswersCommand closed growing words before now status
+
+-- what a program writes and answers for its words; those that can't be read touch nothing
+abbrev pub AnswersWords : (Fields → List (List ℕ) → List ℕ) → (Fields → List (List ℕ) → List ℕ) → Result (List Text) WordsFault
+    → Outside → Outside → Status → Type 0
+AnswersWords closed growing (Ok words) before now status = AnswersFor closed growing (help_of words) words before now status
+AnswersWords closed growing (Err fault) before now status = (status ≡ fault_answer fault) × (now ≡ before)
+
+-- the program ends with its answer's code, and has written its messages
+pub record EndsProgram (Answered : Status → Type 0) (before now : Taken) (code : ℕ) : Type 0 where
+  pub status : Status
+  pub answered : Answered status
+  pub code_is : code ≡ status.code
+  pub said : Reports (messages_of status) before now

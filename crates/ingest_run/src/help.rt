@@ -1,0 +1,120 @@
+//! The texts of help, and which words ask for them.
+
+ghost use Rattle.std.specs.Prelude.{◌≡◌, ◌||◌, codes};
+ghost use Rattle.std.specs.Option.{option_map};
+ghost use Rattle.std.specs.Str.{bytes_eq};
+ghost use Rattle.ingest_run.specs.Helps.{are_help as are_help_words, help_of};
+ghost use Rattle.ingest_run.specs.Words.{texts};
+
+/// `--help`, `-h` and `help`.
+pub const SERVER: &str = "\
+ingest_server - takes in finished ProRes frames and writes an MXF file of them
+
+Usage: ingest_server COMMAND
+       ingest_server --help | --version
+
+Commands:
+  wrap    read a feed of finished frames on standard input and write one
+          closed MXF OP1a file of them to standard output
+
+Help:
+  -h, --help, help    print this text
+  COMMAND --help      print what the command reads and writes
+  --version           print the version
+
+A command reads its input once, from the first byte to the last. In memory
+it keeps one frame, 24 bytes for each frame, and a buffer for what stands
+between frames. Where the input breaks off or breaks its form, the file of
+the whole frames before the break has been written.
+
+Exit status, with the number that stands behind `refusal` in the fault line:
+  0    everything was read, and everything was written
+  1    memory ran out (1)
+  2    the words are no command with its options (0)
+  3    the feed breaks its form:
+         110  the head: the magic bytes or a field of the configuration
+         111  an item does not begin with UNIT
+         112  the feed ends inside its head or inside an item
+         114  the feed is longer than 2^44 bytes
+         116  a frame is longer than 2^28 bytes
+  5    standard input could not be read (113)
+  7    standard output could not be written (117)
+  10   the feed has more frames than its configuration allows (95)
+
+Where the status is not 0, standard error has the line
+  ingest_server: status C refusal N at A other O
+A is the byte of the input at which a feed breaks its form, counted from 0.
+For status 10 it is the number of frames that the configuration allows, and
+for 5 and 7 the number of faults.
+";
+
+/// `wrap --help` and `wrap -h`.
+pub const WRAP: &str = "\
+ingest_server wrap - write finished ProRes frames as one MXF OP1a file
+
+Usage: ingest_server wrap < FEED > FILE.mxf
+
+Reads from standard input a feed of units:
+  8 bytes    PRFEEDU1
+  64 bytes   the configuration: size, rate and limits of the recording
+  then, for each frame, the four bytes UNIT, its length in four bytes, the
+  highest first (at most 2^28), and the frame itself
+
+Writes to standard output:
+  the header partition
+  body partitions, each of as many frames as the configuration says: an index
+  of the frames of the partition before, and each frame, unchanged, as a
+  picture element
+  the footer partition with the durations and the index of the last frames
+  the random index pack
+No byte is written twice: a frame can be read as soon as it was written.
+
+Options: none. A frame is passed on unread.
+
+Where the feed breaks off or breaks its form (status 3), where it has more
+frames than its configuration allows (status 10), or where reading fails
+(status 5), the file of the whole frames before that place is closed and has
+been written. Where the first 72 bytes are cut or wrong, nothing is written.
+`ingest_server --help` lists the statuses.
+";
+
+/// Behind the fault line, where the words are no command.
+pub const USAGE: &str = "usage: ingest_server wrap < FEED > FILE.mxf, or ingest_server --help\n";
+
+/// `--version`.
+pub const VERSION: &str = "ingest_server 1\n";
+
+/// The text of help that the words ask for: as the first word, or as the only one behind a command.
+pub(crate) fn help_text(words: &[String]) -> Option<&'static str>
+    ensures { option_map (λ text. text.now) result ≡ help_of (texts words.now) }
+{
+    let (first, rest) = words.split_first()?;
+    let first = first.as_str();
+    if is_help(first) || first == "help" {
+        return Some(SERVER);
+    }
+    if first == "--version" {
+        return Some(VERSION);
+    }
+    if first == "wrap" && are_help(rest) {
+        return Some(WRAP);
+    }
+    None
+}
+
+/// Whether the words behind a command ask for its help.
+fn are_help(words: &[String]) -> bool
+    ensures { result ≡ are_help_words (texts words.now) }
+{
+    match words {
+        [word] => is_help(word.as_str()),
+        _ => false,
+    }
+}
+
+/// Whether a word asks for help wherever it stands.
+fn is_help(word: &str) -> bool
+    ensures { result ≡ (bytes_eq word.now (codes "--help") || bytes_eq word.now (codes "-h")) }
+{
+    word == "--help" || word == "-h"
+}

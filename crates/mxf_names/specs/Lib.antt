@@ -1,0 +1,5 @@
+pub mod EditRates
+pub mod Identifiers
+pub mod Keys
+pub mod Picture
+pub mod laws

@@ -1,0 +1,6 @@
+use Rattle.std.proofs.lemmas.Nat.{and_mask}
+use Rattle.prores_codes.proofs.Made.{short_is_form}
+use Rattle.prores_codes.proofs.forms.short_form.Goals as goal
+
+pub returns : goal.returns
+returns c = rw (c.power_of_two-one.ensures, and_mask c.args.n c.args.code.r) (short_is_form c.args.code c.args.n c.requires)

@@ -1,0 +1,17 @@
+//! What the commands of the program share: their answers, and the file of a take on its way to a sink.
+//!
+//! The crates above rest on two contracts. Each end of a run has one answer, which `end_status` and `feed_status` give by
+//! `specs/Statuses.antt`: a refusal's number stands there and in these functions alone. A `TakeFile` writes the parts of
+//! a layout's file one by one, and each piece is written whole or, where the sink fails, up to some byte (`Writes`).
+//! `HasDeviceCauses` (`specs/Causes.antt`) has what the counts of faults show about an answer, in every command alike.
+//! Terms: an answer is a `Status`; a feed's end is a `FeedEnd`; a piece is what one call writes.
+//! Not promised: anything of what a head, a lead or a tail says, and how long a call takes.
+#![tactic(auto)]
+
+mod end;
+mod status;
+mod take_file;
+
+pub use end::{FeedEnd, PutFault, end_status};
+pub use status::{FAULTY_WORDS, MEMORY, feed_status, refusal, sink_status};
+pub use take_file::TakeFile;

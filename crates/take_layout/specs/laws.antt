@@ -1,0 +1,4 @@
+pub mod Files
+pub mod Grown
+pub mod Looks
+pub mod Takes
