@@ -1,10 +1,10 @@
-// The peer of crates/codes_bench: the same symbols, codes and checks in plain C. No part of the product.
+// The same symbols, codes and checks as in program.txt, in plain C. No part of the product.
 #include <stdbool.h>
 #include <stdint.h>
 #include <stdio.h>
 #include <string.h>
 
-enum { COUNT = 4096 };
+enum { COUNT = 4096, ROUNDS = 256 };
 
 typedef struct { uint8_t a, r, e; } Code;
 typedef struct { uint8_t *out; size_t len, at; uint64_t acc; uint32_t count; } Writer;
@@ -113,7 +113,8 @@ __attribute__((noinline)) static uint64_t read_all(size_t used) {
     return sum;
 }
 
-int main(int count, char **words) {
+int main(void) {
+    char line[32];
     uint32_t state = 2463534242u;
     for (int k = 0; k < COUNT; k++) {
         state ^= state << 13;
@@ -121,19 +122,16 @@ int main(int count, char **words) {
         state ^= state << 5;
         symbols[k] = (state & 0xff) >> (state >> 8 & 7);
     }
-    int rounds = 20000, writes = 1, reads = 1;
-    for (int k = 1; k < count; k++) {
-        if (!strcmp(words[k], "few")) rounds = 20;
-        if (!strcmp(words[k], "write")) writes = rounds;
-        if (!strcmp(words[k], "read")) reads = rounds;
+    while (fgets(line, sizeof line, stdin)) {
+        uint64_t sum = 0;
+        line[strcspn(line, "\n")] = 0;
+        if (!strcmp(line, "write")) {
+            for (int k = 0; k < ROUNDS; k++) { sum += write_all(); sum += bytes[sum % 4096]; }
+        } else if (!strcmp(line, "read")) {
+            size_t used = write_all();
+            for (int k = 0; k < ROUNDS; k++) { sum += read_all(used); bytes[sizeof bytes - 1] = (uint8_t)sum; }
+        }
+        printf("%llu\n", (unsigned long long)sum);
     }
-    size_t used = 0;
-    for (int k = 0; k < writes; k++) used = write_all();
-    uint64_t sum = 0;
-    for (int k = 0; k < reads; k++) {
-        sum += read_all(used);
-        bytes[sizeof bytes - 1] = (uint8_t)sum;
-    }
-    printf("%zu %llu\n", used, (unsigned long long)sum);
     return 0;
 }
