@@ -1,41 +1,52 @@
 // The same sums as the program beside it, in plain C.
+#include <immintrin.h>
 #include <stdint.h>
 #include <stdio.h>
 #include <string.h>
 
+#define PARTS 2040u
 #define BLOCKS 65280u
 #define NEVER __attribute__((noinline))
 
 static uint32_t next(uint32_t x) { return x * 1664525u + 1013904223u; }
 
+struct divisor {
+    uint16_t factor, shift;
+};
+
 static uint8_t matrix[64];
-static uint32_t factors[64];
+static struct divisor divisors[64];
 
-NEVER static void levels_once(const uint16_t *restrict block, uint16_t scale, uint16_t *restrict out) {
-    uint16_t divisor = 2 * scale;
+static struct divisor divisor_of(uint16_t divisor) {
     int shift = 31 - __builtin_clz(divisor - 1);
-    uint16_t factor = ((1u << (16 + shift)) + divisor - 1) / divisor;
-    for (int k = 0; k < 64; k++) {
-        uint16_t x = block[k] / 2 + scale;
-        uint16_t size = (uint16_t)(((uint32_t)x * factor) >> 16) >> shift;
-        out[k] = 2 * size + block[k] % 2;
-    }
+    return (struct divisor){((1u << (16 + shift)) + divisor - 1) / divisor, shift};
 }
 
-NEVER static void half_steps_once(const uint32_t *restrict by, const int64_t *restrict block, uint16_t *restrict out) {
-    for (int k = 0; k < 64; k++) {
-        uint32_t size = (uint64_t)(block[k] < 0 ? -block[k] : block[k]) >> 25;
-        out[k] = 2 * (((uint64_t)size * by[k]) >> 22) + (block[k] < 0);
-    }
+static inline uint16_t quotient(uint16_t x, struct divisor by) { return (uint16_t)(((uint32_t)x * by.factor) >> 16) >> by.shift; }
+
+NEVER static void levels_once(const uint16_t *restrict part, uint16_t scale, struct divisor by, uint16_t *restrict out) {
+    for (int k = 0; k < 2048; k++) out[k] = 2 * quotient(part[k] / 2 + scale, by) + part[k] % 2;
 }
 
-NEVER static void lanes_once(const uint16_t *restrict sizes, const int16_t *restrict signs, uint16_t weight, uint16_t *restrict out) {
-    int shift = 31 - __builtin_clz(weight - 1);
-    uint16_t factor = ((1u << (16 + shift)) + weight - 1) / weight;
-    for (int k = 0; k < 64; k++) {
-        uint16_t count = (uint16_t)(((uint32_t)sizes[k] * factor) >> 16) >> shift;
-        out[k] = 2 * count + (signs[k] < 0);
+NEVER static uint64_t reached_once(const uint16_t *part, uint16_t least) {
+    __m128i low = _mm_set1_epi16((short)least);
+    uint64_t count = 0;
+    for (int word = 0; word < 32; word++) {
+        uint64_t bits = 0;
+        for (int k = 0; k < 4; k++) {
+            __m128i a = _mm_loadu_si128((const __m128i *)(part + 64 * word + 16 * k));
+            __m128i b = _mm_loadu_si128((const __m128i *)(part + 64 * word + 16 * k + 8));
+            __m128i c = _mm_cmpeq_epi16(_mm_max_epu16(a, low), a), d = _mm_cmpeq_epi16(_mm_max_epu16(b, low), b);
+            bits |= (uint64_t)(uint32_t)_mm_movemask_epi8(_mm_packs_epi16(c, d)) << 16 * k;
+        }
+        count += __builtin_popcountll(bits);
     }
+    return count;
+}
+
+NEVER static void lanes_once(const uint16_t *restrict sizes, const uint16_t *restrict negative, uint16_t *restrict out) {
+    for (int place = 0; place < 64; place++)
+        for (int k = 0; k < 8; k++) out[8 * place + k] = 2 * quotient(sizes[8 * place + k], divisors[place]) + negative[8 * place + k];
 }
 
 NEVER static void quantise_once(const int64_t *restrict block, uint16_t scale, int32_t *restrict out) {
@@ -57,23 +68,23 @@ NEVER static int dequantise_once(const int64_t *restrict block, const uint8_t *r
 
 int main(void) {
     char line[32];
-    for (int p = 0; p < 64; p++) { matrix[p] = 4 + p / 8 + p % 8; factors[p] = ((1u << 22) + matrix[p] - 1) / matrix[p]; }
+    static uint16_t part[2048], out16[2048];
+    for (int p = 0; p < 64; p++) { matrix[p] = 4 + p / 8 + p % 8; divisors[p] = divisor_of(matrix[p]); }
     while (fgets(line, sizeof line, stdin)) {
         uint32_t sum = 0, x = 1;
-        uint16_t steps[64], short_out[64];
         int64_t g[64];
         int32_t out[64];
         line[strcspn(line, "\n")] = 0;
         if (!strcmp(line, "levels")) {
-            for (int k = 0; k < 64; k++) { x = next(x); steps[k] = x / 65536 % 16384; }
-            for (uint32_t n = 0; n < BLOCKS; n++) { levels_once(steps, n / 128 + 1, short_out); sum += short_out[n % 64]; }
-        } else if (!strcmp(line, "half_steps")) {
-            for (int k = 0; k < 64; k++) { x = next(x); g[k] = ((int64_t)x - 2147483648ll) * 256; }
-            for (uint32_t n = 0; n < BLOCKS; n++) { half_steps_once(factors, g, short_out); sum += short_out[n % 64]; }
+            for (int k = 0; k < 2048; k++) { x = next(x); part[k] = x / 65536 % 16384; }
+            for (uint32_t n = 0; n < PARTS; n++) { uint16_t twice = n / 2 % 1020 + 2; levels_once(part, twice / 2, divisor_of(twice), out16); sum += out16[n % 2048]; }
+        } else if (!strcmp(line, "reached")) {
+            for (int k = 0; k < 2048; k++) { x = next(x); part[k] = x / 65536 % 16384; }
+            for (uint32_t n = 0; n < PARTS; n++) { uint32_t least = (2 * (n % 7 + 1) - 1) * 2 * (n / 4 + 1); sum += (uint32_t)reached_once(part, least < 65535 ? least : 65535); }
         } else if (!strcmp(line, "lanes")) {
-            int16_t signs[64];
-            for (int k = 0; k < 64; k++) { x = next(x); steps[k] = x / 65536 % 16384; signs[k] = -1; }
-            for (uint32_t n = 0; n < BLOCKS; n++) { lanes_once(steps, signs, n % 60 + 4, short_out); sum += short_out[n % 64]; signs[n % 64] = n % 2; }
+            uint16_t negative[512];
+            for (int k = 0; k < 512; k++) { x = next(x); part[k] = x / 65536 % 32768; negative[k] = k % 2; }
+            for (uint32_t n = 0; n < 8160; n++) { lanes_once(part, negative, out16); sum += out16[n % 512]; negative[n % 512] = n % 2; }
         } else if (!strcmp(line, "quantise")) {
             for (int k = 0; k < 64; k++) { x = next(x); g[k] = ((int64_t)x - 2147483648ll) * 256; }
             for (uint32_t n = 0; n < BLOCKS; n++) { quantise_once(g, n / 128 + 1, out); sum += out[n % 64] < 0 ? -out[n % 64] : out[n % 64]; }

@@ -1,5 +1,5 @@
 -- What a writer has put into the slice that it was lent (own).
-use Rattle.std.specs.Prelude.{◌≡◌, ◌<◌, ℕ, ◌-◌, ◌*◌, List, ◌++◌, length, take, drop}
+use Rattle.std.specs.Prelude.{◌≡◌, ◌<◌, ◌≤◌, ℕ, ◌-◌, ◌*◌, List, ◌++◌, length, take, drop}
 use Rattle.std.specs.Borrow.{GName}
 use Rattle.bit_io.specs.declared.writer.BitWriter.{BitWriter}
 use Rattle.bit_io.specs.declared.writer.Full.{Full}
@@ -36,5 +36,6 @@ pub record Overfills (old : BitWriter) (n : ℕ) (full : Full) : Type 0 where
 -- the used bytes spell the bits put and then fewer than 8 zeros, and the bytes behind them stay as they were
 pub record Pads (writer : BitWriter) (used : ℕ) (out : List ℕ) : Type 0 where
   pub fewest : used ≡ bytes_for (length (bits_put writer))
+  pub within : used ≤ length out
   pub spelled : bits_of (take used out) ≡ bits_put writer ++ zeros (8 * used - length (bits_put writer))
   pub behind : drop used out ≡ drop used (lent writer)

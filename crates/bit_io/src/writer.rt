@@ -1,4 +1,4 @@
-ghost use Rattle.std.specs.Prelude.{◌≡◌, ◌+◌, ◌*◌, ◌<◌, ◌≤◌, ◌^◌, ◌↔◌, ◌++◌, [], length, take, drop, IsOk, IfErr, OnOk, OnErr};
+ghost use Rattle.std.specs.Prelude.{◌≡◌, ◌+◌, ◌*◌, ◌<◌, ◌≤◌, ◌^◌, ◌↔◌, ◌++◌, [], length, take, drop, IsTrue, IsOk, IfErr, OnOk, OnErr};
 ghost use Rattle.bit_io.specs.Bits.{bits, bits_of};
 
 use thiserror::Error;
@@ -56,7 +56,7 @@ impl<'a> BitWriter<'a> {
     {
         let count = self.count + u32::from(n);
         let free = self.out.len() - self.at;
-        if free < (count as usize + 7) / 8 {
+        if overfills(free, count) {
             return Err(Full {
                 need: u64::from(n),
                 room: 8 * free as u64 - u64::from(self.count),
@@ -92,6 +92,15 @@ impl<'a> BitWriter<'a> {
         store(out, at, last, (acc << (32 - count) & 0xffff_ffff) as u32);
         at + last
     }
+}
+
+// Whether so many bits overfill the free bytes. 8 bytes have room for them, and nearly always there are as many.
+#[inline(always)]
+fn overfills(free: usize, count: u32) -> bool
+    requires { count < 64 }
+    ensures { IsTrue result ↔ (8 * free < count) }
+{
+    free < 8 && free < (count as usize + 7) / 8
 }
 
 // Stores the first `count` bytes of a word, the highest first.

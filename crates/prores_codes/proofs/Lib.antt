@@ -1,5 +1,5 @@
-pub mod Digits
+pub mod HeadLemmas
 pub mod Made
+pub mod PairLemmas
 pub mod Parsed
 pub mod Signs
-pub mod Spelled

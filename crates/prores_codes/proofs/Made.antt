@@ -1,49 +1,31 @@
-use Rattle.std.proofs.Common.{◌≡◌, ℕ, ◌+◌, ◌-◌, ◌*◌, ◌/◌, ◌%◌, ◌^◌, ◌<◌, ◌≤◌, List, ◌∷◌, ◌++◌, refl, sym, ap, subst, ◌∙◌, arith, ◌⊎◌, inl, inr}
+use Rattle.std.proofs.Common.{◌≡◌, ℕ, ◌+◌, ◌-◌, ◌*◌, ◌/◌, ◌%◌, ◌^◌, ◌<◌, ◌≤◌, List, ◌∷◌, ◌++◌, sym, ap, subst, ◌∙◌, arith, ◌⊎◌, inl, inr}
 use Rattle.std.specs.Int.Count.{count_leading_zeros}
 use Rattle.std.proofs.Math.Nat.{add_assoc, div-eq_of_lt}
-use Rattle.std.proofs.lemmas.Nat.{pow_pos, pow-add, div_below, mod_below, shr_high, mod_low, le-div, shr_below, mul-le, leading_length}
-use Rattle.std.proofs.lemmas.Bool.{cases_lt}
+use Rattle.std.proofs.lemmas.Nat.{pow_pos, pow-add, mod_below, shr_high, mod_low, le-div, shr_below, mul-le, leading_length}
 use Rattle.bit_io.specs.Bits.{bits, zeros}
 use Rattle.bit_io.specs.laws.BitLaws.{length-bits}
-use Rattle.prores_codes.specs.declared.code.Code.{Code}
-use Rattle.prores_codes.specs.Codes.{HasDigits, Spells, IsShort, IsLong, Fits, short_count, long_number}
+use Rattle.prores_codes.specs.Codes.{Parameters, HasDigits, IsShort, IsLong, Fits, short_count, long_number}
 use Rattle.prores_codes.specs.inner.Forms.{IsForm, IsFound, many_zeros}
-use Rattle.prores_codes.proofs.Digits.{digits_from_leading, digits_most, pow_le, digits_same, digits_more, numbered, short_bits}
-use Rattle.prores_codes.proofs.Spelled.{short_length, long_length}
-
--- the upper part of a number with a short spelling
-upper_part : (code : Code) (n : ℕ) → n < short_count code → n / 2 ^ code.r ≤ code.a
-upper_part code n h = omega (arith, div_below n (2 ^ code.r) (code.a + 1) (pow_pos code.r) h)
-
-pub short_spells : (code : Code) (n : ℕ) → n < short_count code → Spells code (zeros (n / 2 ^ code.r) ++ 1 ∷ bits code.r n) n
-short_spells code n h =
-    let is : IsShort code (zeros (n / 2 ^ code.r) ++ 1 ∷ bits code.r n) n = record { small = h; spelled = refl } in
-    record { most = omega (arith, short_length code (zeros (n / 2 ^ code.r) ++ 1 ∷ bits code.r n) n is, upper_part code n h, code.switch, code.rice); cases = inl is }
-
-pub long_spells : (code : Code) (n d : ℕ) → short_count code ≤ n → HasDigits d (long_number code n) → code.a + 2 * d ≤ 32 + code.e
-    → Spells code (zeros (code.a + 1 + (d - 1 - code.e)) ++ bits d (long_number code n)) n
-long_spells code n d large has short =
-    let s : List ℕ = zeros (code.a + 1 + (d - 1 - code.e)) ++ bits d (long_number code n) in
-    let is : IsLong code s n = record { digits = d; large = large; binary = has; spelled = refl } in
-    record { most = omega (arith, long_length code s n is); cases = inr is }
+use Rattle.prores_codes.specs.laws.Digits.{pow_le, digits_same, digits_more, numbered, short_bits}
+use Rattle.prores_codes.specs.laws.Lengths.{short_zeros, long_length, IsNarrow}
 
 -- a long spelling of at most 32 bits has so few digits
-pub fits_digits : (code : Code) (n d : ℕ) → Fits code n → short_count code ≤ n → HasDigits d (long_number code n) → code.a + 2 * d ≤ 32 + code.e
+pub fits_digits : (code : Parameters) (n d : ℕ) → Fits code n → short_count code ≤ n → HasDigits d (long_number code n) → code.a + 2 * d ≤ 32 + code.e
 fits_digits code n d fits large has = cases fits.1.cases
   where
     cases : IsShort code fits.0 n ⊎ IsLong code fits.0 n → code.a + 2 * d ≤ 32 + code.e
     cases (inl is) = absurd (omega (arith, is.small))
     cases (inr is) = omega (arith, digits_same is.digits d (long_number code n) is.binary has, long_length code fits.0 n is, fits.1.most)
 
-pub short_is_form : (code : Code) (n : ℕ) → n < short_count code → IsForm code n (n / 2 ^ code.r + 1 + code.r) (2 ^ code.r + n % 2 ^ code.r)
-short_is_form code n h =
+pub short_is_form : (code : Parameters) (n : ℕ) → IsNarrow code → n < short_count code → IsForm code n (n / 2 ^ code.r + 1 + code.r) (2 ^ code.r + n % 2 ^ code.r)
+short_is_form code n narrow h =
     let r : ℕ = code.r in
     let z : ℕ = n / 2 ^ r in
     let low : n % 2 ^ r < 2 ^ r = mod_below n (2 ^ r) (pow_pos r) in
-    let few : z ≤ code.a = upper_part code n h in
+    let few : z ≤ code.a = short_zeros code n h in
     let sum : z + (1 + r) ≡ z + 1 + r = sym (add_assoc z 1 r) in
     record {
-      most = omega (arith, few, code.switch, code.rice);
+      most = omega (arith, few, narrow.switch, narrow.rice);
       small = omega (arith, low, pow-add 2 1 r, pow_le (1 + r) (z + 1 + r) (omega arith));
       spelled = λ s spells. cases s sum spells.cases;
     }
@@ -52,7 +34,7 @@ short_is_form code n h =
     cases s sum (inl is) = is.spelled ∙ (short_bits code.r n ∙ ap (λ (k : ℕ). bits k (2 ^ code.r + n % 2 ^ code.r)) sum)
     cases s sum (inr is) = absurd (omega (arith, is.large))
 
-pub long_is_form : (code : Code) (n d : ℕ) → short_count code ≤ n → HasDigits d (long_number code n) → code.a + 2 * d ≤ 32 + code.e
+pub long_is_form : (code : Parameters) (n d : ℕ) → short_count code ≤ n → HasDigits d (long_number code n) → code.a + 2 * d ≤ 32 + code.e
     → IsForm code n (code.a + 2 * d - code.e) (long_number code n)
 long_is_form code n d large has short =
     let m : ℕ = long_number code n in
@@ -83,13 +65,13 @@ tail_range next z size more most highest all =
     )
 
 -- the first bits are a short spelling
-pub found_short : (code : Code) (next z : ℕ) → z ≤ code.a → 2 ^ (31 - z) ≤ next → next < 2 ^ (32 - z)
+pub found_short : (code : Parameters) (next z : ℕ) → IsNarrow code → z ≤ code.a → 2 ^ (31 - z) ≤ next → next < 2 ^ (32 - z)
     → (2 ^ code.r ≤ next / 2 ^ (32 - (z + 1 + code.r))) × IsFound code next (z + 1 + code.r) (z * 2 ^ code.r + next / 2 ^ (32 - (z + 1 + code.r)) - 2 ^ code.r)
-found_short code next z few highest all =
+found_short code next z narrow few highest all =
     let r : ℕ = code.r in
     let size : ℕ = z + 1 + r in
     let tail : ℕ = next / 2 ^ (32 - size) in
-    let range = tail_range next z size (omega arith) (omega (arith, code.switch, code.rice)) highest all in
+    let range = tail_range next z size (omega arith) (omega (arith, narrow.switch, narrow.rice)) highest all in
     let one : size - z - 1 ≡ r = omega arith in
     let two : size - z ≡ 1 + r = omega arith in
     let least : 2 ^ r ≤ tail = subst (λ (j : ℕ). 2 ^ j ≤ tail) one range.0 in
@@ -107,22 +89,22 @@ found_short code next z few highest all =
     let P : ℕ → Type 0 = λ k. IsFound code next size k in (
       least,
       subst P (sym same) (record {
-        most = omega (arith, code.switch, code.rice);
+        most = omega (arith, narrow.switch, narrow.rice);
         spelled = record {
-          most = omega (arith, length-bits size tail, code.switch, code.rice);
+          most = omega (arith, length-bits size tail, narrow.switch, narrow.rice);
           cases = inl (record { small = omega (arith, row, low); spelled = spelled });
         };
       }),
     )
 
 -- the first bits are a long spelling
-pub found_long : (code : Code) (next z : ℕ) → code.a < z → z < many_zeros code → 2 ^ (31 - z) ≤ next → next < 2 ^ (32 - z)
+pub found_long : (code : Parameters) (next z : ℕ) → IsNarrow code → code.a < z → z < many_zeros code → 2 ^ (31 - z) ≤ next → next < 2 ^ (32 - z)
     → (2 ^ code.e ≤ next / 2 ^ (32 - (2 * z + code.e - code.a))) × IsFound code next (2 * z + code.e - code.a) (next / 2 ^ (32 - (2 * z + code.e - code.a)) - 2 ^ code.e + short_count code)
-found_long code next z more few highest all =
+found_long code next z narrow more few highest all =
     let size : ℕ = 2 * z + code.e - code.a in
     let tail : ℕ = next / 2 ^ (32 - size) in
     let d : ℕ = z + code.e - code.a in
-    let most : size ≤ 32 = omega (arith, code.switch) in
+    let most : size ≤ 32 = omega (arith, narrow.switch) in
     let range = tail_range next z size (omega arith) most highest all in
     let two : size - z ≡ d = omega arith in
     let one : size - z - 1 ≡ d - 1 = omega arith in
@@ -159,18 +141,3 @@ pub leading_none : (next c : ℕ) → next < 2 ^ 32 → c ≤ count_leading_zero
 leading_none next c h many =
     let long = leading_length 32 next h in
     div-eq_of_lt (omega (arith, long.2, pow_le long.0 (32 - c) (omega (arith, long.1))))
-
--- a number of few digits has a spelling
-pub few_digits_fit : (code : Code) (n digits : ℕ) → n + 2 ^ code.e ≤ 2 ^ digits → code.a + 2 * digits ≤ 32 + code.e → Fits code n
-few_digits_fit code n digits small short = cases (cases_lt n (short_count code))
-  where
-    cases : (n < short_count code) ⊎ (short_count code ≤ n) → Fits code n
-    cases (inl few) = (zeros (n / 2 ^ code.r) ++ 1 ∷ bits code.r n, short_spells code n few)
-    cases (inr large) =
-        let m : ℕ = long_number code n in
-        let some : 0 < 2 ^ code.e = pow_pos code.e in
-        let count : 0 < short_count code = omega (arith, pow_pos code.r, mul-le 1 1 (code.a + 1) (2 ^ code.r) (omega arith) (pow_pos code.r)) in
-        let below : m < 2 ^ digits = omega (arith, small, large, some, count) in
-        let d : ℕ = digits - count_leading_zeros digits m in
-        let has : HasDigits d m = digits_from_leading digits m (omega (arith, some)) below in
-        (zeros (code.a + 1 + (d - 1 - code.e)) ++ bits d m, long_spells code n d large has (omega (arith, digits_most d digits m has below)))

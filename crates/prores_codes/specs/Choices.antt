@@ -1,24 +1,6 @@
 -- Which code follows which symbol (RDD 36). docs/FORMATS.md, "Codes".
-use Rattle.std.specs.Prelude.{ℕ, ◌+◌, if◌then◌else◌, nat_lt}
-use Rattle.prores_codes.specs.declared.code.Code.{Code}
-
--- the numbers of a combination code
-pub record Parameters : Type 0 where
-  pub a : ℕ
-  pub r : ℕ
-  pub e : ℕ
-
--- three numbers as a code
-abbrev pub combination : ℕ → ℕ → ℕ → Parameters
-combination a r e = record { a = a; r = r; e = e }
-
--- the code of order k
-abbrev pub order : ℕ → Parameters
-order k = combination 0 k (k + 1)
-
--- the numbers of a code
-abbrev pub parameters : Code → Parameters
-parameters code = combination code.a code.r code.e
+use Rattle.std.specs.Prelude.{ℕ, if◌then◌else◌, nat_lt}
+use Rattle.prores_codes.specs.Codes.{Parameters, combination, order}
 
 -- the code of a DC difference, by the size of the difference before
 abbrev pub dc_parameters : ℕ → Parameters

@@ -1,8 +1,11 @@
 pub mod Choices
 pub mod Codes
 pub mod Folded
+pub mod Heads
+pub mod Pairs
 pub mod Spellings
 pub mod inner
+pub mod laws
 pub use Rattle.bit_io.specs.Bits
 pub use Rattle.bit_io.specs.Read
 pub use Rattle.bit_io.specs.Written

@@ -1,6 +1,7 @@
 ghost use Rattle.std.specs.Prelude.{◌≡◌};
 ghost use Rattle.std.specs.Int.RustNames.{unsigned_abs};
-ghost use Rattle.prores_codes.specs.Choices.{order, parameters, dc_parameters, run_parameters, level_parameters};
+ghost use Rattle.prores_codes.specs.Choices.{dc_parameters, run_parameters, level_parameters};
+ghost use Rattle.prores_codes.specs.Codes.{order, parameters};
 
 use crate::code::Code;
 

@@ -1,5 +1,5 @@
 ghost use Rattle.std.specs.Prelude.{◌≡◌, ◌+◌, ◌-◌, ◌*◌, ◌/◌, ◌^◌, ◌<◌, ◌≤◌, ◌↔◌, IsTrue, IfSome, IfNone};
-ghost use Rattle.prores_codes.specs.Codes.{HasDigits, Fits, short_count, long_number};
+ghost use Rattle.prores_codes.specs.Codes.{HasDigits, Fits, parameters, short_count, long_number};
 ghost use Rattle.prores_codes.specs.inner.Forms.{IsForm, IsFound, many_zeros};
 
 use crate::code::Code;
@@ -31,15 +31,15 @@ fn power_of_two(exponent: u8) -> u32
 
 /// How many numbers have a short spelling.
 fn short_count(code: Code) -> u32
-    ensures { result ≡ short_count code }
+    ensures { result ≡ short_count (parameters code) }
 {
     (u32::from(code.a) + 1) << code.r
 }
 
 /// The number in whose digits a long spelling ends.
 fn long_number(code: Code, n: u32) -> u64
-    requires { short_count code ≤ n }
-    ensures { result ≡ long_number code n }
+    requires { short_count (parameters code) ≤ n }
+    ensures { result ≡ long_number (parameters code) n }
 {
     u64::from(n - short_count(code)) + u64::from(power_of_two(code.e))
 }
@@ -55,7 +55,7 @@ fn digits_of(number: u64) -> u8
 
 /// Whether a number has a spelling.
 pub fn has_form(code: Code, n: u32) -> bool
-    ensures { IsTrue result ↔ Fits code n }
+    ensures { IsTrue result ↔ Fits (parameters code) n }
 {
     if n < short_count(code) {
         return true;
@@ -65,8 +65,8 @@ pub fn has_form(code: Code, n: u32) -> bool
 
 /// The spelling of a number.
 pub fn form_of(code: Code, n: u32) -> Form
-    requires { Fits code n }
-    ensures { IsForm code n result.size result.number }
+    requires { Fits (parameters code) n }
+    ensures { IsForm (parameters code) n result.size result.number }
 {
     if n < short_count(code) {
         short_form(code, n)
@@ -76,8 +76,8 @@ pub fn form_of(code: Code, n: u32) -> Form
 }
 
 fn short_form(code: Code, n: u32) -> Form
-    requires { n < short_count code }
-    ensures { IsForm code n result.size result.number }
+    requires { n < short_count (parameters code) }
+    ensures { IsForm (parameters code) n result.size result.number }
 {
     let one = power_of_two(code.r);
     Form {
@@ -87,9 +87,9 @@ fn short_form(code: Code, n: u32) -> Form
 }
 
 fn long_form(code: Code, n: u32) -> Form
-    requires large { short_count code ≤ n }
-    requires fits { Fits code n }
-    ensures { IsForm code n result.size result.number }
+    requires large { short_count (parameters code) ≤ n }
+    requires fits { Fits (parameters code) n }
+    ensures { IsForm (parameters code) n result.size result.number }
 {
     let number = long_number(code, n);
     Form {
@@ -100,7 +100,7 @@ fn long_form(code: Code, n: u32) -> Form
 
 /// The fewest zeros of a code of more than 32 bits.
 pub fn many_zeros(code: Code) -> u8
-    ensures value { result ≡ many_zeros code }
+    ensures value { result ≡ many_zeros (parameters code) }
     ensures small { result ≤ 18 }
 {
     (32 + code.a - code.e) / 2 + 1
@@ -108,8 +108,8 @@ pub fn many_zeros(code: Code) -> u8
 
 /// The number whose spelling the next 32 bits begin with, or none where too many zeros stand there.
 pub fn find(code: Code, next: u32) -> Option<Found>
-    ensures found { IfSome result (λ f. IsFound code next f.size f.number) }
-    ensures none { IfNone result (next / 2 ^ (32 - many_zeros code) ≡ 0) }
+    ensures found { IfSome result (λ f. IsFound (parameters code) next f.size f.number) }
+    ensures none { IfNone result (next / 2 ^ (32 - many_zeros (parameters code)) ≡ 0) }
 {
     let zeros = next.leading_zeros() as u8;
     if zeros <= code.a {
@@ -125,7 +125,7 @@ fn find_short(code: Code, next: u32, zeros: u8) -> Found
     requires few { zeros ≤ code.a }
     requires highest { 2 ^ (31 - zeros) ≤ next }
     requires all { next < 2 ^ (32 - zeros) }
-    ensures { IsFound code next result.size result.number }
+    ensures { IsFound (parameters code) next result.size result.number }
 {
     let size = zeros + 1 + code.r;
     let tail = next >> (32 - size);
@@ -140,7 +140,7 @@ fn find_long(code: Code, next: u32, zeros: u8) -> Found
     requires few { 2 * zeros + code.e - code.a ≤ 32 }
     requires highest { 2 ^ (31 - zeros) ≤ next }
     requires all { next < 2 ^ (32 - zeros) }
-    ensures { IsFound code next result.size result.number }
+    ensures { IsFound (parameters code) next result.size result.number }
 {
     let size = 2 * zeros + code.e - code.a;
     let tail = next >> (32 - size);

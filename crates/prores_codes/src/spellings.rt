@@ -1,6 +1,6 @@
 ghost use Rattle.std.specs.Prelude.{◌≡◌, ◌↔◌, ◌+◌, ◌*◌, ◌^◌, ◌≤◌, ◌++◌, ℕ, List, Ok, length, IsTrue, IsOk, IfOk, IfErr, OnOk, OnErr};
 ghost use Rattle.bit_io.specs.Written.{lender, room, Puts, Overfills};
-ghost use Rattle.prores_codes.specs.Codes.{Spells, Fits};
+ghost use Rattle.prores_codes.specs.Codes.{Spells, Fits, parameters};
 ghost use Rattle.prores_codes.specs.Spellings.{Reads, Refuses};
 
 use crate::code::Code;
@@ -10,7 +10,7 @@ use bit_io::{BitReader, BitWriter, BitsEnd, Full};
 
 /// Whether a number's spelling has at most 32 bits.
 pub fn fits(code: Code, n: u32) -> bool
-    ensures { IsTrue result ↔ Fits code n }
+    ensures { IsTrue result ↔ Fits (parameters code) n }
 {
     has_form(code, n)
 }
@@ -20,21 +20,21 @@ pub fn fits(code: Code, n: u32) -> bool
 pub fn small_fits(code: Code, n: u32, digits: u8)
     requires small { n + 2 ^ code.e ≤ 2 ^ digits }
     requires short { code.a + 2 * digits ≤ 32 + code.e }
-    ensures { Fits code n }
+    ensures { Fits (parameters code) n }
 {
     let _ = (code, n, digits);
 }
 
 /// Writes the spelling of a number.
 pub fn write(code: Code, n: u32, out: &mut BitWriter<'_>) -> Result<(), Full>
-    requires { Fits code n }
+    requires { Fits (parameters code) n }
     ensures same_reference { lender out.new ≡ lender out.old }
-    ensures accepted { (spelling : List ℕ) → Spells code spelling n
+    ensures accepted { (spelling : List ℕ) → Spells (parameters code) spelling n
         → (IsOk result ↔ (length spelling ≤ room out.old)) }
-    ensures spelled { (spelling : List ℕ) → Spells code spelling n
+    ensures spelled { (spelling : List ℕ) → Spells (parameters code) spelling n
         → OnOk result (Puts out.old out.new spelling) }
 
-    ensures refused { (spelling : List ℕ) → Spells code spelling n
+    ensures refused { (spelling : List ℕ) → Spells (parameters code) spelling n
         → IfErr result (Overfills out.old (length spelling)) }
     ensures unchanged { OnErr result (out.new ≡ out.old) }
 {
@@ -44,11 +44,11 @@ pub fn write(code: Code, n: u32, out: &mut BitWriter<'_>) -> Result<(), Full>
 
 /// Reads the number whose spelling is next.
 pub fn read(code: Code, bits: &mut BitReader<'_>) -> Result<u32, CodeFault>
-    ensures spelled { IfOk result (Reads code bits.old bits.new) }
-    ensures again { (n : ℕ) (spelling rest : List ℕ) → Spells code spelling n
+    ensures spelled { IfOk result (Reads (parameters code) bits.old bits.new) }
+    ensures again { (n : ℕ) (spelling rest : List ℕ) → Spells (parameters code) spelling n
         → bits.old.left ≡ spelling ++ rest → (result ≡ Ok n) × (bits.new.left ≡ rest) }
 
-    ensures refused { IfErr result (Refuses code bits.old) }
+    ensures refused { IfErr result (Refuses (parameters code) bits.old) }
     ensures unchanged { OnErr result (bits.new ≡ bits.old) }
 {
     match find(code, bits.peek()) {

@@ -8,7 +8,7 @@ use Rattle.std.proofs.lemmas.Nat.{div-add-mod', mod_below, div_below}
 use Rattle.std.proofs.Math.Nat.{add-mul, mul-le-mul_right}
 use Rattle.prores_scan.specs.Levels.{step_of, with_sign_of, nearest_quotient}
 use Rattle.prores_scan.specs.ScaledLevels.{signed_of, AreApart}
-use Rattle.prores_scan.proofs.HalfStepLemmas.{nearest_from_half_steps, signed_of-sign_last}
+use Rattle.prores_scan.specs.laws.HalfStepLaws.{nearest_from_half_steps, signed_of-sign_last}
 
 -- how far apart two sizes with signs are, from the sizes
 abbrev pub gap : ℤ → ℤ → ℕ → ℕ → ℕ

@@ -1,6 +1,6 @@
 pub mod ScanLemmas
 pub mod LevelLemmas
 pub mod ReciprocalLemmas
-pub mod HalfStepLemmas
+pub mod ThresholdLemmas
 pub mod ChangeLemmas
-pub mod RowLemmas
+pub mod EightLemmas

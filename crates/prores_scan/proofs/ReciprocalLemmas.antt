@@ -4,9 +4,7 @@ use Rattle.std.proofs.lemmas.Nat.{pow-add, shr-shr, div-add-mod', mod_below, div
 use Rattle.std.proofs.lemmas.Bool.{cases_lt, cases_order}
 use Rattle.std.proofs.Math.Nat.{mul_assoc, mul_comm, mul-add, add-mul, mul-le-mul_left, mul-le-mul_right, le_of_mul-le-mul_right, lt_of_mul-lt-mul_right, div-eq_of_lt-le}
 use Rattle.std.specs.Int.Count.{count_leading_zeros}
-use Rattle.std.proofs.lemmas.Nat.{mul-le}
-use Rattle.std.proofs.Math.Nat.{div-div-eq-div-mul}
-use Rattle.prores_scan.specs.inner.Reciprocals.{IsReciprocal, IsFactor}
+use Rattle.prores_scan.specs.inner.Reciprocals.{IsReciprocal}
 
 -- a factor a little above a power over the divisor gives the quotient of each number that it is not too far above for
 pub quotient_from : (x divisor factor power : ℕ) → 0 < divisor → power ≤ factor * divisor → factor * divisor < power + divisor
@@ -35,9 +33,9 @@ pub quotient_is : (x divisor factor shift : ℕ) → IsReciprocal divisor factor
 quotient_is x divisor factor shift r small =
     let whole : 2 ^ 15 * 2 ^ (shift + 1) ≡ 2 ^ (16 + shift) = sym (pow-add 2 15 (shift + 1)) ∙ ap (λ (n : ℕ). 2 ^ n) (omega arith) in
     let near : x * (divisor - 1) ≤ 32800 * (divisor - 1) = mul-le-mul_right (divisor - 1) small in
-    let open_most = r.most in let open_some = r.some in let open_shifted = r.shifted in
+    let open_most = r.most in let open_least = r.least in let open_shifted = r.shifted in
     shr-shr (x * factor) 16 shift
-    ∙ quotient_from x divisor factor (2 ^ (16 + shift)) r.some r.low r.high (omega arith)
+    ∙ quotient_from x divisor factor (2 ^ (16 + shift)) (omega arith) r.low r.high (omega arith)
 
 -- the leading zeros of the number before a divisor give the shift
 pub record IsShift (divisor shift : ℕ) : Type 0 where
@@ -70,20 +68,6 @@ reciprocal_is divisor shift least most s =
     let cut : (power + divisor - 1) / divisor * divisor + (power + divisor - 1) % divisor ≡ power + divisor - 1 = div-add-mod' (power + divisor - 1) divisor in
     let rest : (power + divisor - 1) % divisor < divisor = mod_below (power + divisor - 1) divisor (omega arith) in
     let low = s.low in (
-      record { some = omega arith; most = most; shifted = s.high; short = s.short; low = omega arith; high = omega arith },
+      record { least = least; most = most; shifted = s.high; short = s.short; low = omega arith; high = omega arith },
       div_below (power + divisor - 1) divisor (2 ^ 16) (omega arith) (omega arith),
     )
-
--- the whole half steps of a size, as the code counts them
-pub count_is : (size weight factor : ℕ) → IsFactor weight factor → size < 2 ^ 41
-    → size / 2 ^ 25 * factor / 2 ^ 22 ≡ size / (2 ^ 25 * weight)
-count_is size weight factor f small =
-    let low = f.least in
-    let high = f.most in
-    let short : size / 2 ^ 25 ≤ 2 ^ 16 - 1 = omega arith in
-    let near : size / 2 ^ 25 * (weight - 1) ≤ (2 ^ 16 - 1) * 62 = mul-le (size / 2 ^ 25) (weight - 1) (2 ^ 16 - 1) 62 short (omega arith) in
-    quotient_from (size / 2 ^ 25) weight factor (2 ^ 22) (omega arith) f.low f.high (omega arith)
-    ∙ div-div-eq-div-mul size (2 ^ 25) weight
-
-pub count_small : (size weight : ℕ) → 4 ≤ weight → size < 2 ^ 41 → size / (2 ^ 25 * weight) < 2 ^ 14
-count_small size weight least small = div_below size (2 ^ 25 * weight) (2 ^ 14) (omega arith) (omega arith)

@@ -1,4 +1,4 @@
--- Levels and products. docs/FORMATS.md, "Quantiser".
+-- Levels and products. docs/formats/frames.md, "Quantiser".
 use Rattle.std.specs.Prelude.{◌≡◌, ◌<◌, ◌≤◌, ◌+◌, ◌*◌, ◌/◌, ◌^◌, ℕ, ℤ, pos, negsuc, ◌-ℤ◌, ◌*ℤ◌, neg_ℤ}
 use Rattle.std.specs.Int.RustNames.{unsigned_abs}
 

@@ -2,6 +2,9 @@ pub mod Scans
 pub mod WeightsAndScales
 pub mod Levels
 pub mod Products
+pub mod Divisors
 pub mod HalfSteps
 pub mod ScaledLevels
+pub mod Thresholds
 pub mod inner
+pub mod laws

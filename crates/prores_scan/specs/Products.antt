@@ -1,4 +1,4 @@
--- The products of whole blocks of levels. docs/FORMATS.md, "Quantiser".
+-- The products of whole blocks of levels. docs/formats/frames.md, "Quantiser".
 use Rattle.std.specs.Prelude.{◌≡◌, ◌<◌, ◌≤◌, ◌+◌, ◌*◌, ◌%◌, ◌^◌, ℕ, ℤ, List, pos, length, slice_index, slice_index_or}
 use Rattle.std.specs.Int.RustNames.{unsigned_abs}
 use Rattle.prores_scan.specs.declared.products.CoefficientRange.{CoefficientRange}

@@ -1,5 +1,5 @@
--- The levels of coefficients at any scale, as their half steps tell them (own). docs/FORMATS.md, "Quantiser".
-use Rattle.std.specs.Prelude.{◌≡◌, ◌<◌, ◌≤◌, ◌/◌, ◌%◌, ◌==◌, ◌↔◌, ℕ, ℤ, length, List, pos, neg_ℤ, ◌-ℤ◌, slice_index, if◌then◌else◌}
+-- The levels of coefficients at any scale, as their half steps tell them (own). docs/formats/frames.md, "Quantiser".
+use Rattle.std.specs.Prelude.{◌≡◌, ◌<◌, ◌≤◌, ◌/◌, ◌%◌, ◌==◌, ℕ, ℤ, length, List, pos, neg_ℤ, ◌-ℤ◌, slice_index, if◌then◌else◌}
 use Rattle.std.specs.Int.RustNames.{unsigned_abs}
 use Rattle.prores_scan.specs.HalfSteps.{half_steps_of}
 use Rattle.prores_scan.specs.Levels.{level_of}
@@ -14,12 +14,6 @@ AreLevels half_steps scale levels =
     (k : ℕ) → k < length half_steps → (g : ℤ) (weight : ℕ) → 1 ≤ weight
     → slice_index half_steps k ≡ half_steps_of g weight
     → signed_of (slice_index levels k) ≡ level_of g weight scale
-
--- the coefficients from these half steps on are those whose levels at a scale have this size or more
-abbrev pub IsThreshold : ℕ → ℕ → ℕ → Type 0
-IsThreshold size scale half_steps =
-    (g : ℤ) (weight : ℕ) → 1 ≤ weight
-    → (size ≤ unsigned_abs (level_of g weight scale)) ↔ (half_steps ≤ half_steps_of g weight)
 
 -- the levels at a scale of two coefficients of one weight with these half steps differ by this much or more
 abbrev pub AreApart : ℕ → ℕ → ℕ → ℕ → Type 0

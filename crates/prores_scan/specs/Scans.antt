@@ -1,4 +1,4 @@
--- The two scans, the zigzag orders of a block (RDD 36). docs/FORMATS.md, "Scans".
+-- The two scans, the zigzag orders of a block (RDD 36). docs/formats/frames.md, "Scans".
 use Rattle.std.specs.Prelude.{◌≡◌, ◌<◌, ℕ, List, [], ◌∷◌, slice_index}
 use Rattle.prores_scan.specs.declared.scans.Scan.{Scan}
 use Rattle.prores_scan.specs.declared.scans.Scan.TheVariants.{Progressive, Field}

@@ -1,4 +1,4 @@
--- Weights and scales. docs/FORMATS.md, "Quantiser".
+-- Weights and scales. docs/formats/frames.md, "Quantiser".
 use Rattle.std.specs.Prelude.{◌≡◌, ◌<◌, ◌≤◌, ◌+◌, ◌-◌, ◌*◌, ◌/◌, ◌%◌, ◌==◌, ℕ, Bool, List, slice_index, if◌then◌else◌, nat_le}
 
 -- the weight of a kind at a row and a column: kind 0 (RDD 36), kind 1 (own)

@@ -2,8 +2,8 @@
 
 ghost use Rattle.std.specs.Prelude.{◌≡◌, ◌≤◌, ◌<◌, ◌^◌, ◌+◌, ◌-◌, ◌*◌, ◌/◌, ◌%◌, ◌-ℤ◌, ℕ, length};
 ghost use Rattle.std.specs.Int.RustNames.{unsigned_abs};
-ghost use Rattle.prores_scan.specs.HalfSteps.{AreShort};
-ghost use Rattle.prores_scan.specs.ScaledLevels.{signed_of, AreLevels, IsThreshold, AreApart};
+ghost use Rattle.prores_scan.specs.HalfSteps.{AreShort, AreAtMost};
+ghost use Rattle.prores_scan.specs.ScaledLevels.{signed_of, AreLevels, AreApart};
 
 use crate::reciprocals::Reciprocal;
 
@@ -16,14 +16,14 @@ pub fn signed(number: u16) -> i16
 }
 
 /// The levels at a scale, each a size with its sign as the last bit, of coefficients whose half
-/// steps are given. 1 stands for 0 as well.
-pub fn levels_at(half_steps: &[u16], scale: u16, out: &mut [u16])
+/// steps are given, where `double` divides by twice the scale. 1 stands for 0 as well.
+pub fn levels_at(half_steps: &[u16], double: Reciprocal, out: &mut [u16])
     requires half_steps { AreShort half_steps.now }
-    requires scale { (1 ≤ scale) × (scale ≤ 512) }
     requires room { length out.old ≡ length half_steps.now }
-    ensures levels { AreLevels half_steps.now scale out.new }
+    ensures levels { (scale : ℕ) → double.divisor ≡ 2 * scale → AreLevels half_steps.now scale out.new }
+    ensures small { AreAtMost (2 ^ 14 + 1) out.new }
 {
-    let double = Reciprocal::new(2 * scale);
+    let scale = double.divisor / 2;
     for k in 0..half_steps.len() {
         out[k] = level_at(half_steps[k], scale, double);
     }
@@ -33,21 +33,11 @@ pub fn levels_at(half_steps: &[u16], scale: u16, out: &mut [u16])
 #[inline(always)]
 fn level_at(half_steps: u16, scale: u16, double: Reciprocal) -> u16
     requires half_steps { half_steps < 2 ^ 15 }
-    requires scale { scale ≤ 512 }
-    requires double { double.divisor ≡ 2 * scale }
-    ensures { result ≡ 2 * ((half_steps / 2 + scale) / (2 * scale)) + half_steps % 2 }
+    requires scale { scale ≡ double.divisor / 2 }
+    ensures level { result ≡ 2 * ((half_steps / 2 + scale) / double.divisor) + half_steps % 2 }
+    ensures small { result ≤ 2 ^ 14 + 1 }
 {
     2 * double.quotient(half_steps / 2 + scale) + half_steps % 2
-}
-
-/// The least half steps at which a level has this size.
-pub fn threshold(size: u16, scale: u16) -> u16
-    requires size { 1 ≤ size }
-    requires scale { 1 ≤ scale }
-    requires short { (2 * size - 1) * (2 * scale) < 2 ^ 16 }
-    ensures { IsThreshold size scale result }
-{
-    (2 * size - 1) * (2 * scale)
 }
 
 /// A number that the levels of two coefficients with these half steps differ by at least, where
@@ -80,32 +70,20 @@ fn change(from: u16, to: u16) -> u16
 #[cfg(test)]
 mod tests {
     use super::*;
-    use crate::half_steps::{Divisors, half_steps_from};
-    use crate::weights_and_scales::weights;
-
-    // 5793 half steps of weight 4 below 0, whose level at scale 1 is a tie.
-    const TIE: i64 = -777_523_298_304;
+    use crate::half_steps::half_steps_from;
 
     #[test]
     fn ties_go_away_from_zero_in_lanes(rt: HostRuntime) {
-        let mut g = [0i64; 64];
-        g[1] = TIE;
-        let mut half_steps = [7u16; 64];
-        Divisors::new(&weights(0, false)).half_steps(&g, &mut half_steps);
-        assert_eq!(rt;
-            (half_steps[0], half_steps[1], half_steps[63]),
-            (0, 2 * 5793 + 1, 0)
-        );
-        let from = half_steps_from(23_172, true, Reciprocal::new(4));
-        assert_eq!(rt; from, 2 * 5793 + 1);
-        // 5792 over 2; and three times twice 3
-        assert_eq!(rt; change_bound(0, from, Reciprocal::new(2)), 2896);
-        assert_eq!(rt; threshold(2, 3), 18);
+        // 5793 half steps of weight 4 below 0, whose level at scale 1 is a tie
+        let tie = half_steps_from(23_172, 1, Reciprocal::new(4));
+        assert_eq!(rt; tie, 2 * 5793 + 1);
+        // 5792 over 2
+        assert_eq!(rt; change_bound(0, tie, Reciprocal::new(2)), 2896);
         // scale, level: 5793 over twice the scale, by long division
         let rows = [(1, -2897), (2, -1448), (3, -966), (512, -6)];
         for (scale, want) in rows {
-            let mut levels = [7u16; 64];
-            levels_at(&half_steps, scale, &mut levels);
+            let mut levels = [7u16; 2];
+            levels_at(&[0, tie], Reciprocal::new(2 * scale), &mut levels);
             assert_eq!(rt; signed(levels[1]), want, "at {scale}");
             assert_eq!(rt; signed(levels[0]), 0);
         }

@@ -51,7 +51,7 @@ mod tests {
 
     #[test]
     fn the_scale_grows_in_fours_above_128(rt: HostRuntime) {
-        // docs/FORMATS.md, "Quantiser"
+        // docs/formats/frames.md, "Quantiser"
         let rows = [
             (0, None),
             (1, Some(1)),

@@ -1,6 +1,9 @@
+pub mod BasisLemmas
 pub mod EachLemmas
 pub mod Halves
+pub mod ColumnLemmas
 pub mod Rounding
 pub mod SumLemmas
 pub mod WordLemmas
 pub mod RowLemmas
+pub mod SizeLemmas

@@ -34,10 +34,10 @@ unfolding floored
 floored_small (pos n) small = omega arith
 floored_small (negsuc n) small = omega arith
 
--- what holds of each cell holds at each place of the block
-pub all_in_range : (out : List ℕ) → length out ≡ 64 → ((y x : ℕ) → y < 8 → x < 8 → slice_index out (8 * y + x) ≤ 1019) → (k : ℕ) → slice_index out k ≤ 1019
-all_in_range out long cells k = ⊎_elim
-    (λ (lt : k < 64). let e : 8 * (k / 8) + k % 8 ≡ k = omega arith in subst (λ (i : ℕ). slice_index out i ≤ 1019) e (cells (k / 8) (k % 8) (omega arith) (omega arith)))
+-- what holds at each place of a block holds at every place
+pub all_in_range : (out : List ℕ) → length out ≡ 64 → ((k : ℕ) → k < 64 → slice_index out k ≤ 1019) → (k : ℕ) → slice_index out k ≤ 1019
+all_in_range out long within k = ⊎_elim
+    (λ (lt : k < 64). within k lt)
     (λ (past : 64 ≤ k). subst (λ (v : ℕ). v ≤ 1019) (sym (get_or_past out k 0 (omega arith))) (lit≤ tt))
     (cases_lt k 64)
 

@@ -1,12 +1,12 @@
 -- Products and sums of whole numbers with a sign.
-use Rattle.std.proofs.Common.{◌≡◌, ℕ, zero, suc, ◌+◌, ◌*◌, ◌≤◌, ◌<◌, lit≤, refl, sym, ap, ◌∙◌, arith, ℤ, pos, ◌+ℤ◌, ◌*ℤ◌, List, slice_index}
+use Rattle.std.proofs.Common.{◌≡◌, add-one, ℕ, zero, suc, ◌+◌, ◌*◌, ◌≤◌, ◌<◌, lit≤, refl, sym, ap, ◌∙◌, arith, ℤ, pos, ◌+ℤ◌, ◌*ℤ◌, List, slice_index}
 use Rattle.std.specs.Int.RustNames.{unsigned_abs}
 use Rattle.std.proofs.lemmas.Int.{ints, unsigned_abs-mul}
 use Rattle.std.proofs.Math.Nat.{mul-le-mul}
 use Rattle.std.proofs.Math.IntN.{*ℤ_comm}
 use borrow.Author.Differences.{up, down, same_in, product_is, sum_is_lem}
 use Rattle.whole_transform.specs.Sums.{sum_to}
-use Rattle.whole_transform.specs.Transform.{centred}
+use Rattle.whole_transform.specs.Transform.{lane_centred}
 
 -- the size of a product
 pub abs-mul-le : (a b : ℤ) (m n : ℕ) → unsigned_abs a ≤ m → unsigned_abs b ≤ n → unsigned_abs (a *ℤ b) ≤ m * n
@@ -17,11 +17,20 @@ pub sum_by_pairs : (f : ℕ → ℤ) → (f 0 +ℤ f 1) +ℤ (f 2 +ℤ f 3) ≡ 
 unfolding sum_to
 sum_by_pairs f = omega (arith, ints)
 
+-- one term more
+pub sum_more : (n : ℕ) (f : ℕ → ℤ) → sum_to (n + 1) f ≡ sum_to n f +ℤ f n
+unfolding sum_to
+sum_more n f = ap (λ (k : ℕ). sum_to k f) (add-one n)
+
 -- equal terms have equal sums
 pub sum_ext : (n : ℕ) (f g : ℕ → ℤ) → ((k : ℕ) → k < n → f k ≡ g k) → sum_to n f ≡ sum_to n g
 unfolding sum_to
 sum_ext zero f g same = refl
 sum_ext (suc n) f g same = cc (sum_ext n f g (λ k lt. same k (omega arith)), same n (omega arith))
+
+-- so have equal values with the same factors
+pub sum_of_equal : (n : ℕ) (b f g : ℕ → ℤ) → ((k : ℕ) → k < n → f k ≡ g k) → sum_to n (λ k. b k *ℤ f k) ≡ sum_to n (λ k. b k *ℤ g k)
+sum_of_equal n b f g same = sum_ext n (λ k. b k *ℤ f k) (λ k. b k *ℤ g k) (λ k lt. ap (λ (z : ℤ). b k *ℤ z) (same k lt))
 
 -- four terms over values that are equal, one by one
 pub sum_of_four : (b v w : ℕ → ℤ) → v 0 ≡ w 0 → v 1 ≡ w 1 → v 2 ≡ w 2 → v 3 ≡ w 3 → sum_to 4 (λ k. b k *ℤ v k) ≡ sum_to 4 (λ k. b k *ℤ w k)
@@ -94,9 +103,17 @@ columns_then_rows m n a b f =
     (λ y lower. sym (mul_assoc (b x) (a y) (f y x)) ∙ ap (λ (z : ℤ). z *ℤ f y x) (*ℤ_comm (b x) (a y))))
     ∙ sum_swap n m (λ x y. (a y *ℤ b x) *ℤ f y x)
 
+-- rows first, then columns
+pub rows_then_columns : (m n : ℕ) (a b : ℕ → ℤ) (f : ℕ → ℕ → ℤ) →
+    sum_to m (λ y. a y *ℤ sum_to n (λ x. b x *ℤ f y x)) ≡ sum_to m (λ y. sum_to n (λ x. (a y *ℤ b x) *ℤ f y x))
+rows_then_columns m n a b f =
+    sum_ext m (λ y. a y *ℤ sum_to n (λ x. b x *ℤ f y x)) (λ y. sum_to n (λ x. (a y *ℤ b x) *ℤ f y x))
+    (λ y lt. sym (sum_scale n (a y) (λ x. b x *ℤ f y x))
+    ∙ sum_ext n (λ x. a y *ℤ (b x *ℤ f y x)) (λ x. (a y *ℤ b x) *ℤ f y x) (λ x lower. sym (mul_assoc (a y) (b x) (f y x))))
+
 -- a sample below 1024 is at most 512 away from 512
-pub centred_small : (block : List ℕ) (y x : ℕ) → slice_index block (8 * y + x) < 1024 → unsigned_abs (centred block y x) ≤ 512
-centred_small block y x lt = omega (arith, ints)
+pub lane_centred_small : (samples : List ℕ) (b y x : ℕ) → slice_index samples (64 * y + (8 * x + b)) < 1024 → unsigned_abs (lane_centred samples b y x) ≤ 512
+lane_centred_small samples b y x lt = omega (arith, ints)
 
 -- a sum over numbers in two parts, the first over c
 pub sum_split : (n : ℕ) (c : ℤ) (b f g h : ℕ → ℤ) → ((k : ℕ) → k < n → f k ≡ c *ℤ g k +ℤ h k) →

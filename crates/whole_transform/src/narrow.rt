@@ -124,7 +124,7 @@ fn widened(x: [i16; 4]) -> [i32; 4]
 
 /// The products of the even basis numbers at the first two places.
 #[inline(always)]
-fn even_products(x: [i32; 4]) -> [i32; 4]
+pub fn even_products(x: [i32; 4]) -> [i32; 4]
     requires { (k : ℕ) → k < 4 → unsigned_abs (at x k) ≤ 2 ^ 15 }
     ensures fourth { (k : ℕ) → k < 2 → at result (2 * k) ≡ basis (4 * k) 0 *ℤ at x 0 +ℤ basis (4 * k) 1 *ℤ at x 1 }
     ensures second { (k : ℕ) → k < 2 →
@@ -183,7 +183,7 @@ fn crossed(x: [i32; 4]) -> [i32; 4]
 
 /// The odd basis numbers at the first four places with four values. They are the same by rows and by columns.
 #[inline(always)]
-fn odd_half(x: [i32; 4]) -> [i32; 4]
+pub fn odd_half(x: [i32; 4]) -> [i32; 4]
     requires { (k : ℕ) → k < 4 → unsigned_abs (at x k) ≤ 2 ^ 15 }
     ensures sums { (k : ℕ) → k < 4 → at result k ≡ sum_to 4 (λ j. basis (2 * k + 1) j *ℤ at x j) }
     ensures small { (k : ℕ) → k < 4 → unsigned_abs (at result k) ≤ 4 * (8035 * 2 ^ 15) }

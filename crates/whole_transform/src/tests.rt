@@ -186,14 +186,6 @@ const HIGH_SAMPLES: [u16; 64] = [
     712, 493, 628, 563,
 ];
 
-// The samples where the last product is the least and the others are 0.
-const LAST_SAMPLES: [u16; 64] = [
-    4, 1019, 4, 1019, 4, 1019, 4, 1019, 1019, 4, 1019, 4, 1019, 4, 1019, 4, 4, 1019, 4, 1019, 4,
-    1019, 4, 1019, 1019, 4, 1019, 4, 1019, 4, 1019, 4, 4, 1019, 4, 1019, 4, 1019, 4, 1019, 1019, 4,
-    1019, 4, 1019, 4, 1019, 4, 4, 1019, 4, 1019, 4, 1019, 4, 1019, 1019, 4, 1019, 4, 1019, 4, 1019,
-    4,
-];
-
 /// A block of samples that has its requirement tested.
 fn sums_of(block: &[u16; 64]) -> Option<[i64; 64]> {
     if block.iter().all(|sample| *sample < 1024) {
@@ -219,15 +211,19 @@ fn samples_of(products: &[i32; 64]) -> Option<[u16; 64]> {
     }
 }
 
-/// The same in 64 bits, whatever the products are.
-fn wide_samples_of(products: &[i32; 64]) -> Option<[u16; 64]> {
-    if products
-        .iter()
-        .all(|product| product.unsigned_abs() <= 1 << 22)
-    {
-        let mut out = [0u16; 64];
-        samples::inverse_wide(products, &mut out);
-        Some(out)
+/// Sizes and signs of eight blocks that have their requirement tested.
+fn sizes_and_signs_of(blocks: &[[u16; 64]; 8]) -> Option<([u16; 512], [u16; 512])> {
+    let mut samples = [0u16; 512];
+    for place in 0..64 {
+        for lane in 0..8 {
+            samples[8 * place + lane] = blocks[lane][place];
+        }
+    }
+    if samples.iter().all(|sample| *sample < 1024) {
+        let mut rows = [0i32; 512];
+        let (mut sizes, mut negative) = ([0u16; 512], [0u16; 512]);
+        forward_lanes(&samples, &mut rows, &mut sizes, &mut negative);
+        Some((sizes, negative))
     } else {
         None
     }
@@ -273,9 +269,53 @@ fn blocks_have_the_sums_of_the_definition(rt: HostRuntime) -> Result<(), Fail> {
 }
 
 #[test]
-fn a_sum_that_decides_a_tie_is_exact(rt: HostRuntime) -> Result<(), Fail> {
+fn blocks_side_by_side_have_their_sizes_and_signs(rt: HostRuntime) -> Result<(), Fail> {
+    let mut impulse = [512u16; 64];
+    impulse[21] = 1023;
+    let flat = [512u16; 64];
+    let blocks = [
+        impulse,
+        [0; 64],
+        flat,
+        STEEP,
+        CHECKERBOARD,
+        [1019; 64],
+        flat,
+        [4; 64],
+    ];
+    let sums = [
+        IMPULSE_SUMS,
+        first_only(-1_099_656_364_032),
+        first_only(0),
+        sums_of(&STEEP).ok_or("samples")?,
+        CHECKERBOARD_SUMS,
+        first_only(1_088_917_532_352),
+        first_only(0),
+        first_only(-1_091_065_298_688),
+    ];
+    let (sizes, negative) = sizes_and_signs_of(&blocks).ok_or("samples")?;
+    for lane in 0..8 {
+        for place in 0..64 {
+            let sum = sums[lane][place];
+            assert_eq!(rt;
+                (
+                    u64::from(sizes[8 * place + lane]),
+                    negative[8 * place + lane]
+                ),
+                (sum.unsigned_abs() >> 25, u16::from(sum < 0)),
+                "block {lane} at {place}"
+            );
+        }
+    }
+    Ok(())
+}
+
+#[test]
+fn a_coefficient_that_decides_a_tie_is_exact(rt: HostRuntime) -> Result<(), Fail> {
     let sums = sums_of(&STEEP).ok_or("samples")?;
     assert_eq!(rt; sums[1], -777_523_298_304);
+    let (sizes, negative) = sizes_and_signs_of(&[STEEP; 8]).ok_or("samples")?;
+    assert_eq!(rt; (sizes[13], negative[13]), (23_172, 1));
     Ok(())
 }
 
@@ -286,9 +326,7 @@ fn products_have_rounded_and_clamped_samples(rt: HostRuntime) -> Result<(), Fail
     let mut mixed = first_product(5000);
     mixed[30] = 2222;
     mixed[63] = -9000;
-    let mut last = [0i32; 64];
-    last[63] = -4_194_304;
-    let cases: [(&str, [i32; 64], [u16; 64]); 15] = [
+    let cases: [(&str, [i32; 64], [u16; 64]); 12] = [
         ("512 - 508", first_product(-16_260), [4; 64]),
         ("512 + 507", first_product(16_228), [1019; 64]),
         ("3 is brought to 4", first_product(-16_290), [4; 64]),
@@ -301,23 +339,15 @@ fn products_have_rounded_and_clamped_samples(rt: HostRuntime) -> Result<(), Fail
         ("mixed", mixed, MIXED_SAMPLES),
         ("all -2^15", [-32_768; 64], DEEP_SAMPLES),
         ("all 2^15", [32_768; 64], HIGH_SAMPLES),
-        ("all -2^15 + 1", [-32_767; 64], DEEP_SAMPLES),
-        ("all 2^15 - 1", [32_767; 64], HIGH_SAMPLES),
-        ("the last alone is above 2^15", last, LAST_SAMPLES),
     ];
     for (name, products, samples) in cases {
         assert_eq!(rt; samples_of(&products), Some(samples), "{name}");
-        assert_eq!(rt;
-            wide_samples_of(&products),
-            Some(samples),
-            "{name}, in 64 bits"
-        );
     }
     Ok(())
 }
 
 #[test]
-fn blocks_side_by_side_keep_apart(rt: HostRuntime) -> Result<(), Fail> {
+fn products_side_by_side_keep_apart(rt: HostRuntime) -> Result<(), Fail> {
     let mut products = [0i16; 512];
     products[8 * 10 + 2] = 3000;
     products[5] = 5000;

@@ -148,3 +148,14 @@ same_parts xs xs' ys ys' l e = (
   sym (take_at xs ys (length xs) refl) ∙ (ap (take (length xs)) e ∙ take_at xs' ys' (length xs) (sym l)),
   sym (drop_at xs ys (length xs) refl) ∙ (ap (drop (length xs)) e ∙ drop_at xs' ys' (length xs) (sym l)),
 )
+
+-- bytes are known by their bits
+pub bits_of_one : (xs ys : List ℕ) → ((i : ℕ) → get_or xs i 0 < 256) → ((i : ℕ) → get_or ys i 0 < 256) → bits_of xs ≡ bits_of ys → xs ≡ ys
+unfolding bits_of
+bits_of_one [] [] one two e = refl
+bits_of_one [] (y ∷ ys) one two e = absurd (omega (arith, ap length e, length-bits_of (y ∷ ys)))
+bits_of_one (x ∷ xs) [] one two e = absurd (omega (arith, ap length e, length-bits_of (x ∷ xs)))
+bits_of_one (x ∷ xs) (y ∷ ys) one two e =
+    let parts = same_parts (bits 8 x) (bits 8 y) (bits_of xs) (bits_of ys) (length-bits 8 x ∙ sym (length-bits 8 y)) e in
+    let first : x ≡ y = bits-same 8 x y (one 0) (two 0) parts.0 in
+    ap (λ (b : ℕ). b ∷ xs) first ∙ ap (λ (bs : List ℕ). y ∷ bs) (bits_of_one xs ys (λ i. one (suc i)) (λ i. two (suc i)) parts.1)

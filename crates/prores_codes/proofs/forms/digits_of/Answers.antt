@@ -1,5 +1,5 @@
 use Rattle.std.proofs.Common.{arith}
-use Rattle.prores_codes.proofs.Digits.{digits_from_leading}
+use Rattle.prores_codes.specs.laws.Digits.{digits_from_leading}
 use Rattle.prores_codes.proofs.forms.digits_of.Goals as goal
 
 pub returns-clause-digits : goal.returns-clause-digits

@@ -1,17 +1,18 @@
-use Rattle.std.proofs.Common.{rules, ◌+◌, ◌*◌, ◌/◌, ◌^◌, ◌≤◌, ◌++◌, ◌∷◌, ℕ, arith, subst}
-use Rattle.prores_codes.specs.Codes.{HasDigits, Fits, short_count, long_number}
-use Rattle.bit_io.specs.Bits.{bits, zeros}
-use Rattle.prores_codes.proofs.Made.{short_spells, long_spells, fits_digits}
+use Rattle.std.proofs.Common.{rules, ◌+◌, ◌*◌, ◌≤◌, ℕ, arith, subst}
+use Rattle.prores_codes.specs.Codes.{HasDigits, Fits, parameters, short_count, long_number}
+use Rattle.prores_codes.specs.laws.Lengths.{narrow_code, short_spells, long_spells}
+use Rattle.prores_codes.proofs.Made.{fits_digits}
 use Rattle.prores_codes.proofs.forms.has_form.Goals as goal
 
 pub returns-then-n-short_count : goal.returns-then-n-short_count
 returns-then-n-short_count c =
-    let there : Fits c.args.code c.args.n = (zeros (c.args.n / 2 ^ c.args.code.r) ++ 1 ∷ bits c.args.code.r c.args.n, short_spells c.args.code c.args.n (omega (arith, c.short_count.ensures))) in
+    let code = parameters c.args.code in
+    let there : Fits code c.args.n = (_, short_spells code c.args.n (narrow_code c.args.code) (omega (arith, c.short_count.ensures))) in
     ((λ _. there), (λ _. search rules))
 
 pub returns : goal.returns
 returns c =
-    let code = c.args.code in
+    let code = parameters c.args.code in
     let n = c.args.n in
     let large : short_count code ≤ n = omega (arith, c.short_count.ensures) in
     let P : ℕ → Type 0 = λ m. HasDigits c.digits_of.result m in

@@ -1,5 +1,5 @@
-use Rattle.prores_codes.proofs.Spelled.{one_spelling}
+use Rattle.prores_codes.specs.laws.Apart as laws
 use Rattle.prores_codes.proofs.laws.spellings_are_apart.Goals as goal
 
 pub returns : goal.returns
-returns c = λ code one two rest others m n first second same. one_spelling code one two rest others m n first second same
+returns c = laws.spellings_are_apart

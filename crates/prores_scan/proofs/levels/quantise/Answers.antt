@@ -1,6 +1,6 @@
 use Rattle.std.proofs.Common.{arith}
 use Rattle.std.proofs.lemmas.Grind.{common_steps}
-use Rattle.prores_scan.proofs.LevelLemmas.{level_of_is_nearest}
+use Rattle.prores_scan.specs.laws.LevelLaws.{level_of_is_nearest}
 use Rattle.prores_scan.proofs.levels.quantise.Goals as goal
 
 pub returns-clause-level : goal.returns-clause-level

@@ -5,33 +5,33 @@ use Rattle.bit_io.specs.Written.{bits_put}
 use Rattle.bit_io.proofs.WriterSteps.{length-put, same_behind, waiting, stored}
 use Rattle.bit_io.proofs.writer.BitWriter.put.Goals as goal
 
-pub returns-then-free-count-clause-accepted : goal.returns-then-free-count-clause-accepted
+pub returns-then-overfills-clause-accepted : goal.returns-then-overfills-clause-accepted
 unfolding bits_put
-returns-then-free-count-clause-accepted c =
+returns-then-overfills-clause-accepted c =
     let w = c.args.self.now in
     let size : length (bits_of (take w.at w.out.now) ++ bits w.count w.acc) ≡ 8 * w.at + w.count = length-put w.at w.count w.acc w.out.now (omega (arith, w.within)) in
-    ((λ (e : false ≡ true). cc), (λ h. absurd (omega (arith, w.within, c.from.ensures))))
+    ((λ (e : false ≡ true). cc), (λ h. absurd (omega (arith, w.within, c.from.ensures, c.overfills.ensures.0 c.if-overfills.true))))
 
-pub returns-then-free-count-clause-refused : goal.returns-then-free-count-clause-refused
+pub returns-then-overfills-clause-refused : goal.returns-then-overfills-clause-refused
 unfolding bits_put
-returns-then-free-count-clause-refused c =
+returns-then-overfills-clause-refused c =
     let w = c.args.self.now in
     let size : length (bits_of (take w.at w.out.now) ++ bits w.count w.acc) ≡ 8 * w.at + w.count = length-put w.at w.count w.acc w.out.now (omega (arith, w.within)) in
-    record { need = search rules; room = omega (arith, w.within); short = omega (arith, w.within) }
+    record { need = search rules; room = omega (arith, w.within, c.from.ensures, c.overfills.ensures.0 c.if-overfills.true); short = omega (arith, w.within, c.from.ensures, c.overfills.ensures.0 c.if-overfills.true) }
 
 pub returns-then-count-ge32-clause-accepted : goal.returns-then-count-ge32-clause-accepted
 unfolding bits_put
 returns-then-count-ge32-clause-accepted c =
     let w = c.args.self.now in
     let size : length (bits_of (take w.at w.out.now) ++ bits w.count w.acc) ≡ 8 * w.at + w.count = length-put w.at w.count w.acc w.out.now (omega (arith, w.within)) in
-    ((λ _. omega (arith, w.within, c.from.ensures, c.if-free-count.false)), (λ _. refl))
+    ((λ _. omega (arith, w.within, c.from.ensures)), (λ _. refl))
 
 pub returns-else-count-ge32-clause-accepted : goal.returns-else-count-ge32-clause-accepted
 unfolding bits_put
 returns-else-count-ge32-clause-accepted c =
     let w = c.args.self.now in
     let size : length (bits_of (take w.at w.out.now) ++ bits w.count w.acc) ≡ 8 * w.at + w.count = length-put w.at w.count w.acc w.out.now (omega (arith, w.within)) in
-    ((λ _. omega (arith, w.within, c.from.ensures, c.if-free-count.false)), (λ _. refl))
+    ((λ _. omega (arith, w.within, c.from.ensures)), (λ _. refl))
 
 pub returns-else-count-ge32-clause-put : goal.returns-else-count-ge32-clause-put
 unfolding bits_put
@@ -50,7 +50,7 @@ returns-then-count-ge32-clause-put c =
     let n = c.args.n in
     let word = rw (c.from.ensures, c.from-2.ensures) at c.store.ensures.stored in
     let size : length c.store.new.out ≡ length w.out.now = search rules in
-    let free : (w.count + n + 7) / 8 ≤ length w.out.now - w.at = omega (arith, c.from.ensures, c.if-free-count.false) in
+    let free : (w.count + n + 7) / 8 ≤ length w.out.now - w.at = omega (arith, c.from.ensures) in
     let full : 32 ≤ w.count + n = omega (arith, c.from.ensures, c.if-count-ge32.true) in
     let long = length-put (w.at + 4) (w.count + c.from.result - 32) (bit_or (w.acc * 2 ^ n % 18446744073709551616) c.from-2.result) c.store.new.out (omega (arith, w.within)) in
     record {

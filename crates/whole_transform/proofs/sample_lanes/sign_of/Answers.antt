@@ -1,0 +1,19 @@
+use Rattle.std.proofs.Common.{pos, ◌+ℤ◌, ◌*ℤ◌, w32, FitsSigned, arith, refl}
+use Rattle.std.proofs.lemmas.Int.{to_z-of_z}
+use Rattle.whole_transform.proofs.SizeLemmas.{carried_short, sign_of_total}
+use Rattle.whole_transform.proofs.sample_lanes.sign_of.Goals as goal
+
+pub shifted_sum-requires-2-clause-sum : goal.shifted_sum-requires-2-clause-sum
+shifted_sum-requires-2-clause-sum c =
+    let high_fits = c.ranges.high in let low_fits = c.ranges.low in
+    let carried_fits : FitsSigned w32 c.shifted_sum.result = record { sfits = c.shifted_sum.type_inv } in
+    let small = carried_short c.args.low (pos 0) c.shifted_sum.result c.requires.low (omega arith) (simp to_z-of_z at c.shifted_sum.ensures) in
+    simp to_z-of_z (omega (arith, c.requires.high))
+
+pub returns : goal.returns
+returns c =
+    let high_fits = c.ranges.high in let low_fits = c.ranges.low in
+    let carried_fits : FitsSigned w32 c.shifted_sum.result = record { sfits = c.shifted_sum.type_inv } in
+    let sign_fits : FitsSigned w32 c.shifted_sum-2.result = record { sfits = c.shifted_sum-2.type_inv } in
+    simp to_z-of_z (sign_of_total (pos 65536 *ℤ c.args.high +ℤ c.args.low) c.args.high c.args.low c.shifted_sum.result c.shifted_sum-2.result refl
+    c.requires.high c.requires.low (simp to_z-of_z at c.shifted_sum.ensures) (simp to_z-of_z at c.shifted_sum-2.ensures))
