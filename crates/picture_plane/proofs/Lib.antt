@@ -1,0 +1,5 @@
+mod RowLemmas
+mod CutSteps
+mod InsideSteps
+mod PlaceSteps
+pub mod PutSteps

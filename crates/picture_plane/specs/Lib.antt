@@ -1,0 +1,8 @@
+pub mod Slices
+pub mod Sizes
+pub mod Views
+pub mod Pictures
+pub mod Blocks
+pub mod Covering
+pub mod inner
+pub mod laws

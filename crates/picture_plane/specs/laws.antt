@@ -1,0 +1,9 @@
+pub mod WidthLaws
+pub mod SliceLaws
+pub mod RunLaws
+pub mod PictureLaws
+pub mod SampleLaws
+pub mod PlaceLaws
+pub mod ApartLaws
+pub mod CoverLaws
+pub mod WholeLaws

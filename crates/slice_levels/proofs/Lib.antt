@@ -1,0 +1,5 @@
+pub mod LaneLemmas
+pub mod SampleLemmas
+pub mod WeighedLemmas
+pub mod CoefficientLemmas
+pub mod LiteralLemmas

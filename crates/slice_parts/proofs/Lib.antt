@@ -1,0 +1,11 @@
+pub mod NumberLemmas
+pub mod WroteLemmas
+pub mod ReadsLemmas
+pub mod DcLemmas
+pub mod PairLemmas
+pub mod PutPairs
+pub mod PadLemmas
+pub mod PartLemmas
+pub mod TablePairs
+pub mod MarkLemmas
+pub mod HeadLemmas

@@ -1,0 +1,41 @@
+-- A number of bits that the spelling of levels has at least, from the sizes of the levels alone (own). docs/formats/frames.md, "Rate rule".
+use Rattle.std.specs.Prelude.{◌≡◌, ◌<◌, ◌≤◌, ◌+◌, ◌*◌, ℕ, zero, suc, ℤ, ◌-ℤ◌, List, [], ◌∷◌, length, slice_index, if◌then◌else◌, nat_le}
+use Rattle.std.specs.Int.RustNames.{unsigned_abs}
+use Rattle.slice_parts.specs.Component.{level_at}
+
+-- 1 where a number reaches a limit
+abbrev pub reaches : ℕ → ℕ → ℕ
+reaches limit n = if nat_le limit n then 1 else 0
+
+-- the fewest bits of a run below 12, by whichever code; a greater one has more
+unfoldable pub least_run : ℕ → ℕ
+least_run run = 1 + reaches 1 run + reaches 2 run + reaches 4 run + reaches 6 run
+
+-- the fewest bits of a size less one below 124, by whichever code; a greater one has more
+unfoldable pub least_size : ℕ → ℕ
+least_size n = 1 + reaches 1 n + reaches 2 n + reaches 4 n + reaches 6 n + reaches 12 n + reaches 14 n + reaches 28 n + reaches 30 n + reaches 60 n + reaches 62 n
+
+-- the fewest bits of a DC level whose difference has this size or more, below 125; a greater one has more
+unfoldable pub least_change : ℕ → ℕ
+least_change n = 1 + reaches 1 n + reaches 2 n + reaches 3 n + 2 * (reaches 5 n + reaches 13 n + reaches 29 n + reaches 61 n)
+
+-- the sum over the sizes of the AC levels that aren't zero: the sign, the size less one, and the run before it
+abbrev pub ac_bound : ℕ → List ℕ → ℕ
+ac_bound run [] = 0
+ac_bound run (zero ∷ sizes) = ac_bound (run + 1) sizes
+ac_bound run (suc n ∷ sizes) = 1 + least_size n + least_run run + ac_bound 0 sizes
+
+-- the sum over the differences of the DC levels
+abbrev pub dc_bound : List ℕ → ℕ
+dc_bound [] = 0
+dc_bound (change ∷ changes) = least_change change + dc_bound changes
+
+-- each level is this far from the one before, or farther
+pub record AreChanges (levels : List ℤ) (changes : List ℕ) : Type 0 where
+  pub long : length levels ≡ length changes + 1
+  pub each : (k : ℕ) → k < length changes → slice_index changes k ≤ unsigned_abs (level_at levels (suc k) -ℤ level_at levels k)
+
+-- none is greater than the other list's at its place
+pub record AreNoGreater (ys xs : List ℕ) : Type 0 where
+  pub long : length ys ≡ length xs
+  pub each : (k : ℕ) → k < length ys → slice_index ys k ≤ slice_index xs k

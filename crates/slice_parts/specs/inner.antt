@@ -1,0 +1,3 @@
+pub mod Written
+pub mod Progress
+pub mod Marks

@@ -1,0 +1,9 @@
+pub mod JoinedLaws
+pub mod DcApart
+pub mod PairSteps
+pub mod PairsApart
+pub mod OneComponent
+pub mod SpelledLaws
+pub mod LeastBits
+pub mod LeastByCode
+pub mod BoundLaws
