@@ -5,13 +5,13 @@ use Rattle.clap.specs.Walk.{Text}
 use Rattle.rec_bytes.specs.Configuration.{Fields}
 use Rattle.rec_bytes.specs.declared.status.Status.{Status}
 use Rattle.raw_feed.specs.declared.fault.FeedFault.{FeedFault}
-use Rattle.raw_feed.specs.declared.fault.FeedFault.TheVariants.{Memory, FeedHead, Marker, FeedCut, SourceFault, TooLong, UnitLong}
+use Rattle.raw_feed.specs.declared.fault.FeedFault.TheVariants.{Memory, FeedHead, Marker, FeedCut, SourceFault, TooLong, Sample, UnitLong}
 use Rattle.raw_feed.specs.declared.kind.Kind.TheVariants.{Units}
 use Rattle.raw_feed.specs.Told.{Told, after}
 use Rattle.raw_feed.specs.Items.{Ending, Clean, Full, Broken}
 use Rattle.raw_feed.specs.Feeds.{EndsInHead}
 use Rattle.raw_feed.specs.Reading.{IfTold}
-use Rattle.run_parts.specs.Causes.{Counts, IsFeedAnswer, HasFeedCauses}
+use Rattle.run_parts.specs.Causes.{Counts, IsFeedAnswer, IsUnitAnswer, HasFeedCauses}
 use Rattle.run_parts.specs.Statuses.{feed_answer, ending_answer, words_answer, memory_answer, sink_answer}
 use Rattle.ingest_run.specs.declared.words.Command.{Command}
 use Rattle.ingest_run.specs.declared.words.Command.TheVariants.{Wrap}
@@ -22,6 +22,7 @@ use Rattle.ingest_run.specs.Programs.{fault_answer}
 use Rattle.ingest_run.specs.Runs.{Wraps, KeepsPace, SaysFor, Says, PacesFor, Paces, Outside, RunsOver, Runs}
 use Rattle.ingest_run.specs.Words.{command_of}
 use Rattle.ingest_run.proofs.GainLemmas.{Gains-nil}
+use Rattle.ingest_run.proofs.UnitLemmas.{unit_code}
 use Rattle.ingest_run.proofs.RunLemmas.{FeedsAreOne, paced-head}
 
 -- no byte was given
@@ -124,6 +125,7 @@ no_words (Marker at) e = omega arith
 no_words (FeedCut at) e = omega arith
 no_words (SourceFault count) e = omega arith
 no_words (TooLong at) e = omega arith
+no_words (Sample at) e = omega arith
 no_words (UnitLong at) e = omega arith
 
 no_words_at : (items : ℕ) (ending : Ending) → (ending_answer items ending).code ≢ 2
@@ -136,7 +138,9 @@ pub causes_wrap : (words : List Text) (before now : Counts) (status : Status) �
 causes_wrap words before now status is c = record {
   answered = inl c.answered;
   faulty = λ e. absurd (⊎_elim
+      (⊎_elim
       (λ (a : IsFeedAnswer status). no_words_at a.0 a.1 (ap (λ (s : Status). s.code) (sym a.3) ∙ e))
+      (λ (a : IsUnitAnswer status). let eight = unit_code a.unit a.fault in let code = ap (λ (s : Status). s.code) a.answered in let two : 8 ≡ 2 = sym eight ∙ (sym code ∙ e) in omega arith))
       (λ (a : status ≡ sink_answer now.sink). let code = ap (λ (s : Status). s.code) a in let seven : 7 ≡ 2 = sym code ∙ e in omega arith)
       c.answered);
   refused = λ e. absurd (cc);
@@ -152,7 +156,7 @@ causes_fault words here Faulty is = record {
   devices = record { source = λ e. absurd (omega arith); source_kept = λ e. inl refl; sink = λ e. absurd (omega arith); sink_kept = λ e. refl };
 }
 causes_fault words here NoMemory is = record {
-  answered = inl (inl (0, Broken Memory, tt, refl));
+  answered = inl (inl (inl (0, Broken Memory, tt, refl)));
   faulty = λ e. absurd (omega arith);
   refused = λ e. inr refl;
   devices = record { source = λ e. absurd (omega arith); source_kept = λ e. inl refl; sink = λ e. absurd (omega arith); sink_kept = λ e. refl };

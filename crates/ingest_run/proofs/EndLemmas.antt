@@ -1,18 +1,24 @@
--- How a feed ends for `next_unit`, and the causes of the answers.
-use Rattle.std.proofs.Common.{◌≡◌, ◌≢◌, ℕ, Option, Some, None, Err, refl, ap, arith, inl, inr, ◌⊎◌}
+-- How a feed ends for `read_unit`, and the causes of the answers.
+use Rattle.std.proofs.Common.{◌≡◌, ◌≢◌, ◌≤◌, ◌<◌, ℕ, List, length, Option, Some, None, Err, refl, ap, arith, inl, inr, ◌⊎◌}
 use Rattle.std.proofs.lemmas.Bool.{cases_eq}
 use Rattle.rec_bytes.specs.Faults.{Rose}
+use Rattle.rec_bytes.specs.Configuration.{Fields}
+use Rattle.rec_bytes.specs.Ranges.{IsInRange}
 use Rattle.rec_bytes.specs.declared.status.Status.{Status}
 use Rattle.raw_feed.specs.declared.fault.FeedFault.{FeedFault}
-use Rattle.raw_feed.specs.declared.fault.FeedFault.TheVariants.{Memory, FeedHead, Marker, FeedCut, SourceFault, TooLong, UnitLong}
+use Rattle.raw_feed.specs.declared.fault.FeedFault.TheVariants.{Memory, FeedHead, Marker, FeedCut, SourceFault, TooLong, Sample, UnitLong}
+use Rattle.raw_feed.specs.declared.limits.TheConstants.{MAX_UNIT}
 use Rattle.raw_feed.specs.Told.{Told}
 use Rattle.raw_feed.specs.Items.{Ending, Broken}
 use Rattle.raw_feed.specs.Breaks.{HasFeedCause}
 use Rattle.raw_feed.specs.Reading.{IfTold}
 use Rattle.run_parts.specs.declared.end.PutFault.{PutFault}
 use Rattle.run_parts.specs.declared.end.PutFault.TheVariants.{Memory as NoMemory, Sink}
-use Rattle.run_parts.specs.Causes.{Counts, IsEnding, HasFeedCauses, HasPutCause}
-use Rattle.run_parts.specs.Statuses.{feed_answer, ending_answer, end_answer, sink_answer}
+use Rattle.run_parts.specs.Causes.{Counts, IsEnding, IsUnitAnswer, HasFeedCauses, HasPutCause}
+use Rattle.run_parts.specs.Units.{RefusesUnit}
+use Rattle.run_parts.specs.Statuses.{feed_answer, ending_answer, unit_answer, end_answer, sink_answer}
+use Rattle.run_parts.specs.declared.unit.UnitFault.{UnitFault}
+use Rattle.ingest_run.proofs.UnitLemmas.{unit_code}
 use Rattle.ingest_run.specs.inner.Steps.{StaysSilent, HasEndCause}
 
 -- what isn't told before isn't told after, where something holds of what is told
@@ -39,12 +45,13 @@ cause_fault T before now (FeedHead at) is c = cause_kept 0 (Broken (FeedHead at)
 cause_fault T before now (Marker at) is c = cause_kept 0 (Broken (Marker at)) before now is c (λ e. omega arith) (λ e. omega arith)
 cause_fault T before now (FeedCut at) is c = cause_kept 0 (Broken (FeedCut at)) before now is c (λ e. omega arith) (λ e. omega arith)
 cause_fault T before now (TooLong at) is c = cause_kept 0 (Broken (TooLong at)) before now is c (λ e. omega arith) (λ e. omega arith)
+cause_fault T before now (Sample at) is c = cause_kept 0 (Broken (Sample at)) before now is c (λ e. omega arith) (λ e. omega arith)
 cause_fault T before now (UnitLong at) is c = cause_kept 0 (Broken (UnitLong at)) before now is c (λ e. omega arith) (λ e. omega arith)
 
 -- the causes of the answer where the feed's end was read, and nothing of the sink failed
 pub causes_end : (before now : Counts) (status : Status) → HasEndCause before.source now.source status → now.sink ≡ before.sink → HasFeedCauses before now status
 causes_end before now status c k = record {
-  answered = inl c.answered;
+  answered = inl (inl c.answered);
   devices = record {
     source = c.source;
     source_kept = λ e. inl (c.source_kept e);
@@ -57,7 +64,7 @@ causes_end before now status c k = record {
 pub causes_put : (T : Type 0) (before now : Counts) (fault : PutFault) → now.source ≡ before.source → HasPutCause {T = T} before.sink now.sink (Err fault)
     → HasFeedCauses before now (end_answer now.sink (Err fault))
 causes_put T before now NoMemory s k = record {
-  answered = inl (0, Broken Memory, tt, refl);
+  answered = inl (inl (0, Broken Memory, tt, refl));
   devices = record {
     source = λ five. absurd (omega arith);
     source_kept = λ five. inl s;
@@ -91,3 +98,20 @@ causes_tail before now status c rose = record {
     kept : (status.code ≡ 5) ⊎ (status.code ≢ 5) → (now.source ≡ before.source) ⊎ (((sink_answer now.sink).code ≡ 7) × Rose before.source now.source)
     kept (inl five) = inr (refl, (c.source five).1)
     kept (inr other) = inl (c.source_kept other)
+
+-- the causes of the answer where a unit is refused
+pub causes_unit : (before now : Counts) (config : Fields) (bytes : List ℕ) (unit : ℕ) (fault : UnitFault) → now.source ≡ before.source → now.sink ≡ before.sink
+    → IsInRange config → unit < config.max_frames → length bytes ≤ MAX_UNIT → RefusesUnit config bytes fault → HasFeedCauses before now (unit_answer unit fault)
+causes_unit before now config bytes unit fault s k ranges few size refused =
+    let eight = unit_code unit fault in
+    let answer : IsUnitAnswer (unit_answer unit fault) =
+    record { config = config; bytes = bytes; unit = unit; fault = fault; ranges = ranges; few = few; size = size; refused = refused; answered = refl } in
+    record {
+      answered = inl (inr answer);
+      devices = record {
+        source = λ five. absurd (omega arith);
+        source_kept = λ five. inl s;
+        sink = λ seven. absurd (omega arith);
+        sink_kept = λ seven. k;
+      };
+    }

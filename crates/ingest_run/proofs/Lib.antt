@@ -6,3 +6,4 @@ pub mod MessageLemmas
 pub mod ProgramLemmas
 pub mod RunLemmas
 pub mod WordsLemmas
+pub mod UnitLemmas

@@ -1,7 +1,7 @@
 -- What each exit of `wrap` says over a source that tells its bytes.
-use Rattle.std.proofs.Common.{◌≡◌, ◌≢◌, ℕ, ◌+◌, List, [], ◌∷◌, ◌++◌, length, take, Option, Some, None, refl, sym, ap, ap₂, ◌∙◌, subst, append_assoc, inl, inr, ◌⊎◌, ⊎_elim, ◌<◌, ◌≤◌, arith}
+use Rattle.std.proofs.Common.{◌≡◌, ◌≢◌, ℕ, ◌+◌, List, [], ◌∷◌, ◌++◌, length, take, drop, All, Option, Some, None, refl, sym, ap, ap₂, ◌∙◌, subst, append_assoc, inl, inr, ◌⊎◌, ⊎_elim, ◌<◌, ◌≤◌, arith, Bool, ◌==◌}
 use Rattle.std.proofs.lemmas.Bool.{cases_lt}
-use Rattle.std.proofs.lemmas.List.{append-nil, append_cancel_left, length-append, same_from_push}
+use Rattle.std.proofs.lemmas.List.{append-nil, append_cancel_left, length-append, same_from_push, take-append-drop}
 use Rattle.std.proofs.lemmas.List.Elements.{All-nil}
 use Rattle.std.specs.List.{flat_map}
 use Rattle.rec_bytes.specs.Configuration.{Fields}
@@ -10,7 +10,7 @@ use Rattle.raw_feed.specs.declared.head.TheConstants.{FEED_HEAD_LEN}
 use Rattle.raw_feed.specs.declared.kind.Kind.{Kind}
 use Rattle.raw_feed.specs.declared.kind.Kind.TheVariants.{Units}
 use Rattle.raw_feed.specs.declared.fault.FeedFault.{FeedFault}
-use Rattle.raw_feed.specs.declared.fault.FeedFault.TheVariants.{Memory, FeedHead, Marker, FeedCut, SourceFault, TooLong, UnitLong}
+use Rattle.raw_feed.specs.declared.fault.FeedFault.TheVariants.{Memory, FeedHead, Marker, FeedCut, SourceFault, TooLong, Sample, UnitLong}
 use Rattle.raw_feed.specs.declared.stage.Stage.{Stage}
 use Rattle.raw_feed.specs.declared.stage.Stage.TheVariants.{Open}
 use Rattle.raw_feed.specs.Told.{Told}
@@ -19,10 +19,13 @@ use Rattle.raw_feed.specs.Feeds.{IsFeed, IsFeedOf, EndsInHead}
 use Rattle.raw_feed.specs.Breaks.{IsShown, MayGoOn, Answers, BreaksHead, Gave, judged_to}
 use Rattle.raw_feed.specs.HasRead.{HasRead, EndsFeed, behind_units}
 use Rattle.raw_feed.specs.Reading.{Reading, IfTold, begun}
-use Rattle.run_parts.specs.Statuses.{feed_answer, ending_answer}
-use Rattle.ingest_run.specs.Runs.{Wraps, KeepsPace, Gains, Lacks, IsCutShort, IsOpenEnd, Outside, RunsOver}
+use Rattle.run_parts.specs.Statuses.{feed_answer, ending_answer, unit_answer}
+use Rattle.run_parts.specs.Units.{IsRead, RefusesUnit}
+use Rattle.run_parts.specs.declared.unit.UnitFault.{UnitFault}
+use Rattle.ingest_run.specs.Runs.{BeginsWith, Wraps, KeepsPace, Gains, Lacks, IsCutShort, IsOpenEnd, Outside, RunsOver}
 use Rattle.ingest_run.specs.inner.Steps.{StaysSilent}
 use Rattle.ingest_run.proofs.GainLemmas.{Gains-nil}
+use Rattle.ingest_run.proofs.UnitLemmas.{unit_code}
 
 -- bytes are a feed in one way
 pub record FeedsAreOne : Type 0 where
@@ -108,7 +111,7 @@ head-alone bytes config units ending f =
       rest = [];
       configured = f.configured;
       split = sym (append-nil (f.head ++ []) ∙ alone);
-      sized = All-nil (IsSized Units);
+      sized = All-nil (IsSized Units config);
       few = omega arith;
       within = omega (arith, length-append f.head (flat_map (item Units) units));
       ends = refl;
@@ -140,6 +143,7 @@ not-both bytes config units (Broken (FeedCut at)) one head f =
     omega (arith, length-append (f.head ++ flat_map (item Units) units) f.rest, length-append f.head (flat_map (item Units) units))
 not-both bytes config units (Broken (SourceFault count)) one head f = head
 not-both bytes config units (Broken (TooLong at)) one head f = head
+not-both bytes config units (Broken (Sample at)) one head f = head
 not-both bytes config units (Broken (UnitLong at)) one head f = head
 
 -- and so do bytes that end in a head
@@ -218,47 +222,49 @@ no_sink items (Broken (Marker at)) e = omega arith
 no_sink items (Broken (FeedCut at)) e = omega arith
 no_sink items (Broken (SourceFault count)) e = omega arith
 no_sink items (Broken (TooLong at)) e = omega arith
+no_sink items (Broken (Sample at)) e = omega arith
 no_sink items (Broken (UnitLong at)) e = omega arith
 
 -- the bytes that were given are as many as were judged
 reached : (given : List ℕ) (told : Told) {n : ℕ} → take (length given) told.left ≡ given → 0 + length given ≡ n → length (take (length given) told.left) ≡ n
 reached given told same reach = let long = ap (length {A = ℕ}) same in omega arith
 
+-- a stop is an answer of a run that is cut short, by 1 or 7
+short : (status : Status) → IsStop status → IsCutShort status
+short status (inl h) = inl h
+short status (inr h) = inr (inr h)
+
+neither : (status : Status) → IsStop status → status.code ≢ 1 → status.code ≢ 7 → ⊥
+neither status (inl h) first seventh = first h
+neither status (inr h) first seventh = seventh h
+
+other : (status : Status) → IsStop status → status.code ≡ 5 → ⊥
+other status (inl h) five = omega arith
+other status (inr h) five = omega arith
+
 -- a run that stopped behind so many units
 pub runs_stopped : (growing closed : Fields → List (List ℕ) → List ℕ) (config : Fields) (units : List (List ℕ)) (answer : Ending) (told : Told) (before now : Outside) (status : Status)
-    → FeedsAreOne → (e : EndsFeed Units config units answer told now.told) → WritesFront growing closed config units e.ending status before.written now.written → IsStop status
+    → FeedsAreOne → (e : EndsFeed Units config units answer told now.told) → All (IsRead config) units → WritesFront growing closed config units e.ending status before.written now.written → IsStop status
     → RunsOver (Wraps closed) (KeepsPace growing) told before now status
-runs_stopped growing closed config units answer told before now status one e w stop = record {
+runs_stopped growing closed config units answer told before now status one e read w stop = record {
   count = length e.given;
   gave = e.gave.1;
   written = w.written;
   gains = w.gains;
   whole = closed config units;
   answered = ending_answer (length units) e.ending;
-  given = inl (record { config = config; units = units; ending = e.ending; feed = feed; file = refl; answered = refl });
+  given = inl (inl (record { config = config; units = units; ending = e.ending; feed = feed; read = read; file = refl; answered = refl }));
   missing = w.missing;
   front = w.front;
-  all = λ one seven. absurd (neither stop one seven);
+  all = λ one seven. absurd (neither status stop one seven);
   cut = w.cut;
-  says = λ whole. absurd (whole (short stop));
-  behind = λ five. absurd (other stop five);
+  says = λ whole. absurd (whole (short status stop));
+  behind = λ five. absurd (other status stop five);
   paced = paced growing (take (length e.given) told.left) w.written config units e.ending one feed (reached e.given told e.gave.0 e.reach) w.begun w.ahead;
 }
   where
     feed : IsFeedOf Units (take (length e.given) told.left) config units e.ending
     feed = subst (λ (bytes : List ℕ). IsFeedOf Units bytes config units e.ending) (sym e.gave.0) e.read
-
-    short : IsStop status → IsCutShort status
-    short (inl h) = inl h
-    short (inr h) = inr (inr h)
-
-    neither : IsStop status → status.code ≢ 1 → status.code ≢ 7 → ⊥
-    neither (inl h) first seventh = first h
-    neither (inr h) first seventh = seventh h
-
-    other : IsStop status → status.code ≡ 5 → ⊥
-    other (inl h) five = omega arith
-    other (inr h) five = omega arith
 
 -- an answer that isn't cut short is shown by bytes
 shown-of : (items : ℕ) (answer : Ending) → (IsCutShort (ending_answer items answer) → ⊥) → IsShown answer
@@ -270,10 +276,11 @@ shown-of items (Broken (Marker at)) whole = tt
 shown-of items (Broken (FeedCut at)) whole = tt
 shown-of items (Broken (SourceFault count)) whole = absurd (whole (inr (inl refl)))
 shown-of items (Broken (TooLong at)) whole = tt
+shown-of items (Broken (Sample at)) whole = tt
 shown-of items (Broken (UnitLong at)) whole = tt
 
 -- and then it is the ending of the bytes that were given
-same-of : (answer ending : Ending) → IsShown answer → Answers answer ending → ending ≡ answer
+same-of : (answer ending : Ending) → IsShown answer → Answers Units answer ending → ending ≡ answer
 same-of Clean ending shown is = is
 same-of Full ending shown is = is
 same-of (Broken Memory) ending shown is = absurd shown
@@ -282,6 +289,7 @@ same-of (Broken (Marker at)) ending shown is = is
 same-of (Broken (FeedCut at)) ending shown is = is
 same-of (Broken (SourceFault count)) ending shown is = absurd shown
 same-of (Broken (TooLong at)) ending shown is = is
+same-of (Broken (Sample at)) ending shown is = is
 same-of (Broken (UnitLong at)) ending shown is = is
 
 -- bytes behind which the feed may go on end openly
@@ -294,10 +302,11 @@ open-ending items (Broken (Marker at)) on = absurd on
 open-ending items (Broken (FeedCut at)) on = inr refl
 open-ending items (Broken (SourceFault count)) on = absurd on
 open-ending items (Broken (TooLong at)) on = absurd on
+open-ending items (Broken (Sample at)) on = absurd on
 open-ending items (Broken (UnitLong at)) on = absurd on
 
 -- the source's fault is answered where they do
-open-of : (items : ℕ) (answer ending : Ending) → (ending_answer items answer).code ≡ 5 → Answers answer ending → IsOpenEnd (ending_answer items ending)
+open-of : (items : ℕ) (answer ending : Ending) → (ending_answer items answer).code ≡ 5 → Answers Units answer ending → IsOpenEnd (ending_answer items ending)
 open-of items Clean ending five is = absurd (omega arith)
 open-of items Full ending five is = absurd (omega arith)
 open-of items (Broken Memory) ending five is = absurd (omega arith)
@@ -306,28 +315,29 @@ open-of items (Broken (Marker at)) ending five is = absurd (omega arith)
 open-of items (Broken (FeedCut at)) ending five is = absurd (omega arith)
 open-of items (Broken (SourceFault count)) ending five is = open-ending items ending is
 open-of items (Broken (TooLong at)) ending five is = absurd (omega arith)
+open-of items (Broken (Sample at)) ending five is = absurd (omega arith)
 open-of items (Broken (UnitLong at)) ending five is = absurd (omega arith)
 
 -- a run that wrote the closed file
 pub runs_closed : (growing closed : Fields → List (List ℕ) → List ℕ) (config : Fields) (units : List (List ℕ)) (answer : Ending) (told : Told) (before now : Outside)
-    → FeedsAreOne → EndsFeed Units config units answer told now.told → Gains before.written now.written (closed config units) → AllButLast growing config units (closed config units)
+    → FeedsAreOne → EndsFeed Units config units answer told now.told → All (IsRead config) units → Gains before.written now.written (closed config units) → AllButLast growing config units (closed config units)
     → AllOf growing config units (closed config units)
     → RunsOver (Wraps closed) (KeepsPace growing) told before now (ending_answer (length units) answer)
-runs_closed growing closed config units answer told before now one e gains begun whole_file = record {
+runs_closed growing closed config units answer told before now one e read gains begun whole_file = record {
   count = length e.given;
   gave = e.gave.1;
   written = closed config units;
   gains = gains;
   whole = closed config units;
   answered = ending_answer (length units) e.ending;
-  given = inl (record { config = config; units = units; ending = e.ending; feed = feed; file = refl; answered = refl });
+  given = inl (inl (record { config = config; units = units; ending = e.ending; feed = feed; read = read; file = refl; answered = refl }));
   missing = [];
   front = sym (append-nil (closed config units));
   all = λ one seven. refl;
   cut = λ seven. absurd (no_sink (length units) answer seven);
   says = λ whole.
       let shown = shown-of (length units) answer whole in (
-        inl (record { config = config; units = units; ending = answer; feed = e.shown shown; file = refl; answered = refl }),
+        inl (inl (record { config = config; units = units; ending = answer; feed = e.shown shown; read = read; file = refl; answered = refl })),
         ap (ending_answer (length units)) (same-of answer e.ending shown e.answered),
       );
   behind = λ five. open-of (length units) answer e.ending five e.answered;
@@ -363,3 +373,88 @@ runs_head growing closed fault told before now one same e = record {
   where
     head : EndsInHead Units (take (length e.given) told.left) e.ending
     head = subst (λ (bytes : List ℕ). EndsInHead Units bytes e.ending) (sym e.gave.0) e.read
+
+-- what was written of the closed file of the units before one that is refused
+pub record WritesBefore (growing closed : Fields → List (List ℕ) → List ℕ) (config : Fields) (units : List (List ℕ)) (unit : List ℕ) (status : Status) (old new : Option (List ℕ)) : Type 0 where
+  pub written : List ℕ
+  pub missing : List ℕ
+  pub gains : Gains old new written
+  pub front : closed config units ≡ written ++ missing
+  pub begun : AllButLast growing config (units ++ unit ∷ []) written
+  pub cut : status.code ≡ 7 → Lacks old missing
+
+-- a run that stopped while it closed the file of the units before one that is refused
+pub runs_refused_stopped : (growing closed : Fields → List (List ℕ) → List ℕ) (config : Fields) (units : List (List ℕ)) (unit : List ℕ) (fault : UnitFault) (answer : Ending) (told : Told) (before now : Outside) (status : Status)
+    → FeedsAreOne → (e : EndsFeed Units config (units ++ unit ∷ []) answer told now.told) → e.ending ≡ Clean → All (IsRead config) units → RefusesUnit config unit fault
+    → WritesBefore growing closed config units unit status before.written now.written → IsStop status
+    → RunsOver (Wraps closed) (KeepsPace growing) told before now status
+runs_refused_stopped growing closed config units unit fault answer told before now status one e clean read refused w stop = record {
+  count = length e.given;
+  gave = e.gave.1;
+  written = w.written;
+  gains = w.gains;
+  whole = closed config units;
+  answered = unit_answer (length units) fault;
+  given = inl (inr (record { config = config; units = units; unit = unit; fault = fault; feed = begun; read = read; refused = refused; file = refl; answered = refl }));
+  missing = w.missing;
+  front = w.front;
+  all = λ one seven. absurd (neither status stop one seven);
+  cut = w.cut;
+  says = λ whole. absurd (whole (short status stop));
+  behind = λ five. absurd (other status stop five);
+  paced = paced growing given w.written config (units ++ unit ∷ []) Clean one feed (reached e.given told e.gave.0 reach) w.begun (λ unclean. absurd (unclean refl));
+}
+  where
+    given : List ℕ
+    given = take (length e.given) told.left
+
+    feed : IsFeedOf Units given config (units ++ unit ∷ []) Clean
+    feed = subst (λ (end : Ending). IsFeedOf Units given config (units ++ unit ∷ []) end) clean
+        (subst (λ (bytes : List ℕ). IsFeedOf Units bytes config (units ++ unit ∷ []) e.ending) (sym e.gave.0) e.read)
+
+    reach : 0 + length e.given ≡ judged_to (behind_units Units (units ++ unit ∷ [])) Clean
+    reach = e.reach ∙ ap (judged_to (behind_units Units (units ++ unit ∷ []))) clean
+
+    begun : BeginsWith given config (units ++ unit ∷ [])
+    begun = record { front = given; rest = []; split = sym (append-nil given); feed = feed }
+
+-- a run that wrote the closed file of the units before one that is refused
+pub runs_refused : (growing closed : Fields → List (List ℕ) → List ℕ) (config : Fields) (units : List (List ℕ)) (unit : List ℕ) (fault : UnitFault) (answer : Ending) (told : Told) (before now : Outside)
+    → FeedsAreOne → (e : EndsFeed Units config (units ++ unit ∷ []) answer told now.told) → e.ending ≡ Clean → All (IsRead config) units → RefusesUnit config unit fault
+    → Gains before.written now.written (closed config units) → AllButLast growing config (units ++ unit ∷ []) (closed config units)
+    → RunsOver (Wraps closed) (KeepsPace growing) told before now (unit_answer (length units) fault)
+runs_refused growing closed config units unit fault answer told before now one e clean read refused gains begun = record {
+  count = length e.given;
+  gave = e.gave.1;
+  written = closed config units;
+  gains = gains;
+  whole = closed config units;
+  answered = unit_answer (length units) fault;
+  given = inl (inr (record { config = config; units = units; unit = unit; fault = fault; feed = begins_given; read = read; refused = refused; file = refl; answered = refl }));
+  missing = [];
+  front = sym (append-nil (closed config units));
+  all = λ one seven. refl;
+  cut = λ seven. absurd (let eight = unit_code (length units) fault in omega arith);
+  says = λ whole. (
+    inl (inr (record { config = config; units = units; unit = unit; fault = fault; feed = begins_all; read = read; refused = refused; file = refl; answered = refl })),
+    refl,
+  );
+  behind = λ five. absurd (let eight = unit_code (length units) fault in omega arith);
+  paced = paced growing given (closed config units) config (units ++ unit ∷ []) Clean one feed (reached e.given told e.gave.0 reach) begun (λ unclean. absurd (unclean refl));
+}
+  where
+    given : List ℕ
+    given = take (length e.given) told.left
+
+    feed : IsFeedOf Units given config (units ++ unit ∷ []) Clean
+    feed = subst (λ (end : Ending). IsFeedOf Units given config (units ++ unit ∷ []) end) clean
+        (subst (λ (bytes : List ℕ). IsFeedOf Units bytes config (units ++ unit ∷ []) e.ending) (sym e.gave.0) e.read)
+
+    reach : 0 + length e.given ≡ judged_to (behind_units Units (units ++ unit ∷ [])) Clean
+    reach = e.reach ∙ ap (judged_to (behind_units Units (units ++ unit ∷ []))) clean
+
+    begins_given : BeginsWith given config (units ++ unit ∷ [])
+    begins_given = record { front = given; rest = []; split = sym (append-nil given); feed = feed }
+
+    begins_all : BeginsWith told.left config (units ++ unit ∷ [])
+    begins_all = record { front = given; rest = drop (length e.given) told.left; split = sym (take-append-drop (length e.given) told.left); feed = feed }

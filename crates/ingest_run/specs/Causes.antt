@@ -2,13 +2,13 @@
 use Rattle.std.specs.Prelude.{◌≡◌, ◌⊎◌, List, None}
 use Rattle.clap.specs.Walk.{Text}
 use Rattle.rec_bytes.specs.declared.status.Status.{Status}
-use Rattle.run_parts.specs.Causes.{Counts, IsFeedAnswer, HasDeviceCauses}
+use Rattle.run_parts.specs.Causes.{Counts, IsReadAnswer, HasDeviceCauses}
 use Rattle.run_parts.specs.Statuses.{words_answer, memory_answer, sink_answer}
 use Rattle.ingest_run.specs.Words.{command_of}
 
 -- the words and the counts of faults show the cause of the answer
 pub record HasCauses (words : List Text) (before now : Counts) (status : Status) : Type 0 where
-  pub answered : (IsFeedAnswer status ⊎ (status ≡ sink_answer now.sink)) ⊎ (status ≡ words_answer)
+  pub answered : (IsReadAnswer status ⊎ (status ≡ sink_answer now.sink)) ⊎ (status ≡ words_answer)
   pub faulty : status.code ≡ 2 → command_of words ≡ None
   pub refused : command_of words ≡ None → (status ≡ words_answer) ⊎ (status ≡ memory_answer)
   pub devices : HasDeviceCauses before now status

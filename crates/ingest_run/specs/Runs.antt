@@ -1,5 +1,5 @@
 -- What a run writes and answers for the words and the feed's bytes (own). docs/ARCHITECTURE.md, "The run".
-use Rattle.std.specs.Prelude.{◌≡◌, ◌≢◌, ◌⊎◌, ℕ, List, [], ◌∷◌, ◌++◌, length, take, Option, Some, None}
+use Rattle.std.specs.Prelude.{◌≡◌, ◌≢◌, ◌⊎◌, ℕ, List, [], ◌∷◌, ◌++◌, length, take, All, Option, Some, None}
 use Rattle.clap.specs.Walk.{Text}
 use Rattle.rec_bytes.specs.Configuration.{Fields}
 use Rattle.rec_bytes.specs.declared.status.Status.{Status}
@@ -12,19 +12,41 @@ use Rattle.raw_feed.specs.Feeds.{IsFeedOf, EndsInHead}
 use Rattle.raw_feed.specs.HasRead.{behind_units}
 use Rattle.raw_feed.specs.Reading.{IfTold}
 use Rattle.run_parts.specs.Causes.{Counts}
-use Rattle.run_parts.specs.Statuses.{ending_answer, words_answer}
+use Rattle.run_parts.specs.Statuses.{ending_answer, unit_answer, words_answer}
+use Rattle.run_parts.specs.Units.{IsRead, RefusesUnit}
+use Rattle.run_parts.specs.declared.unit.UnitFault.{UnitFault}
 use Rattle.ingest_run.specs.declared.words.Command.{Command}
 use Rattle.ingest_run.specs.declared.words.Command.TheVariants.{Wrap}
 use Rattle.ingest_run.specs.Words.{command_of}
 
--- the closed file of the units before the feed's end or first break is written, and the answer is as the feed ends
+-- the feed begins with this configuration and these units, whatever follows them
+pub record BeginsWith (bytes : List ℕ) (config : Fields) (units : List (List ℕ)) : Type 0 where
+  pub front : List ℕ
+  pub rest : List ℕ
+  pub split : bytes ≡ front ++ rest
+  pub feed : IsFeedOf Units front config units Clean
+
+-- each unit is read: the closed file of those before the feed's end or first break is written, and the answer is as it ends
 pub record WrapsUnits (closed : Fields → List (List ℕ) → List ℕ) (bytes written : List ℕ) (status : Status) : Type 0 where
   pub config : Fields
   pub units : List (List ℕ)
   pub ending : Ending
   pub feed : IsFeedOf Units bytes config units ending
+  pub read : All (IsRead config) units
   pub file : written ≡ closed config units
   pub answered : status ≡ ending_answer (length units) ending
+
+-- a unit is refused: the closed file of those before it is written, and the answer is its refusal's
+pub record RefusesAUnit (closed : Fields → List (List ℕ) → List ℕ) (bytes written : List ℕ) (status : Status) : Type 0 where
+  pub config : Fields
+  pub units : List (List ℕ)
+  pub unit : List ℕ
+  pub fault : UnitFault
+  pub feed : BeginsWith bytes config (units ++ unit ∷ [])
+  pub read : All (IsRead config) units
+  pub refused : RefusesUnit config unit fault
+  pub file : written ≡ closed config units
+  pub answered : status ≡ unit_answer (length units) fault
 
 -- the feed ends in its head: nothing is written, and the answer is its refusal's
 pub record RefusesHead (bytes written : List ℕ) (status : Status) : Type 0 where
@@ -35,7 +57,8 @@ pub record RefusesHead (bytes written : List ℕ) (status : Status) : Type 0 whe
 
 -- what `wrap` writes and answers, by the closed files of its layout
 abbrev pub Wraps : (Fields → List (List ℕ) → List ℕ) → List ℕ → List ℕ → Status → Type 0
-Wraps closed bytes written status = WrapsUnits closed bytes written status ⊎ RefusesHead bytes written status
+Wraps closed bytes written status =
+    (WrapsUnits closed bytes written status ⊎ RefusesAUnit closed bytes written status) ⊎ RefusesHead bytes written status
 
 -- The pace of `wrap`, by the growing files of its layout: no byte is read behind the last one that judges how those read
 -- end, once a unit was read all units before it have been written, and once a byte behind it was read it has been, too.

@@ -23,9 +23,10 @@ Help:
   --version           print the version
 
 A command reads its input once, from the first byte to the last. In memory
-it keeps one frame, 24 bytes for each frame, and a buffer for what stands
-between frames. Where the input breaks off or breaks its form, the file of
-the whole frames before the break has been written.
+it keeps room for the longest frame so far, 24 bytes for each frame, and a
+buffer for what stands between frames. Where the input breaks off or breaks
+its form, or where a frame is refused, the file of the whole frames before
+that place has been written.
 
 Exit status, with the number that stands behind `refusal` in the fault line:
   0    everything was read, and everything was written
@@ -39,13 +40,28 @@ Exit status, with the number that stands behind `refusal` in the fault line:
          116  a frame is longer than 2^28 bytes
   5    standard input could not be read (113)
   7    standard output could not be written (117)
+  8    a frame is refused:
+         30   it has fewer bytes than the least frame header
+         31   its bytes 4 to 7 are not icpf
+         32   its frame size is not the number of its bytes
+         33   its header is too short for what it holds, or passes the frame
+         34   its bitstream version is above 1
+         35   its chroma format is not 4:2:2
+         36   its interlace mode is the reserved one
+         37   its width or height is one that no recording may have
+         38   it has an alpha channel
+         40   a coded picture is too short for its header and its slice table,
+              or passes the frame
+         41   a slice passes its coded picture
+         42   its width, height or interlace mode is not the configured one
   10   the feed has more frames than its configuration allows (95)
 
 Where the status is not 0, standard error has the line
   ingest_server: status C refusal N at A other O
 A is the byte of the input at which a feed breaks its form, counted from 0.
-For status 10 it is the number of frames that the configuration allows, and
-for 5 and 7 the number of faults.
+For status 8 it is the byte of the frame (for 30 the frame's length), and O
+is the frame's number, both counted from 0. For status 10 it is the number of
+frames that the configuration allows, and for 5 and 7 the number of faults.
 ";
 
 /// `wrap --help` and `wrap -h`.
@@ -69,12 +85,15 @@ Writes to standard output:
   the random index pack
 No byte is written twice: a frame can be read as soon as it was written.
 
-Options: none. A frame is passed on unread.
+Options: none. Of each frame the headers and the slice tables are read, and
+the size and the interlace mode must be the configured ones. What stands in a
+slice is passed on unread.
 
-Where the feed breaks off or breaks its form (status 3), where it has more
-frames than its configuration allows (status 10), or where reading fails
-(status 5), the file of the whole frames before that place is closed and has
-been written. Where the first 72 bytes are cut or wrong, nothing is written.
+Where the feed breaks off or breaks its form (status 3), where a frame is
+refused (status 8), where the feed has more frames than its configuration
+allows (status 10), or where reading fails (status 5), the file of the whole
+frames before that place is closed and has been written. Where the first 72
+bytes are cut or wrong, nothing is written.
 `ingest_server --help` lists the statuses.
 ";
 

@@ -14,7 +14,7 @@ use thiserror::Error;
 /// What a call is asked to do.
 #[derive(Clone, Copy, Debug, PartialEq, Eq)]
 pub(crate) enum Command {
-    /// Write the picture elements of a feed of units.
+    /// Write the closed file of a feed of units.
     Wrap,
 }
 

@@ -6,18 +6,19 @@ ghost use Rattle.raw_feed.specs.declared.head.TheConstants.{FEED_HEAD_LEN};
 ghost use Rattle.run_parts.specs.Causes.{HasFeedCauses, counts};
 ghost use Rattle.run_parts.specs.Statuses.{end_answer, feed_end_answer};
 ghost use Rattle.ingest_run.specs.Runs.{Runs, Wraps, KeepsPace, outside};
-ghost use Rattle.ingest_run.specs.inner.Steps.{IfItem, IfEnd, ReadsUnit, EndsReading, StaysSilent, HasEndCause, ending_of};
+ghost use Rattle.ingest_run.specs.inner.Steps.{OnItem, IfEnd, ReadsUnit, EndsReading, StaysSilent, HasEndCause, ending_of};
 
 use raw_feed::{
-    Feed, FeedFault, FeedReader, Kind, MAX_UNIT, Sink, Source, Stage, faults_are_placed,
-    feeds_are_one, readings_end, readings_grow,
+    Feed, FeedFault, FeedReader, Kind, MAX_UNIT, Sink, Source, Stage, UnitBuffer,
+    faults_are_placed, feeds_are_one, readings_end, readings_grow,
 };
 use rec_bytes::{Failed, Memory, Status};
-use run_parts::{FeedEnd, PutFault, TakeFile, end_status};
+use run_parts::{CommandEnd, FeedEnd, PutFault, TakeFile, end_status, unit_fault};
 use std::alloc::Global;
 use take_layout::TakeLayout;
 
-/// Writes the closed file of a feed's units. It keeps one unit, the places of the units, and what stands between them.
+/// Writes the closed file of a feed's units, each of which is read as a frame. It keeps memory for the longest unit so far,
+/// the places of the units, and what stands between them.
 pub(crate) fn wrap<N: Feed, L: TakeLayout, S: Source<N>, W: Sink>(
     alloc: Global,
     feed: &mut S,
@@ -34,12 +35,12 @@ pub(crate) fn wrap<N: Feed, L: TakeLayout, S: Source<N>, W: Sink>(
     end_status(ended, out)
 }
 
-/// Writes the closed file of the units before a feed's end, unit by unit as they are read.
+/// Writes the closed file of the units before a feed's end or the first unit that is refused, unit by unit as they are read.
 fn wrap_units<N: Feed, L: TakeLayout, S: Source<N>, W: Sink>(
     alloc: Global,
     feed: &mut S,
     out: &mut W,
-) -> Result<FeedEnd, PutFault>
+) -> Result<CommandEnd, PutFault>
     requires units { (cfg : Fields) (unit : List ℕ) → length unit ≤ MAX_UNIT → L.is_unit cfg unit }
     ensures ran { Runs (Wraps L.closed) (KeepsPace L.growing)
         (outside (S.told feed.old) (S.fault_count feed.old) (W.written out.old) (W.fault_count out.old))
@@ -54,7 +55,7 @@ fn wrap_units<N: Feed, L: TakeLayout, S: Source<N>, W: Sink>(
     readings_grow();
     let mut reader = match FeedReader::<N>::new(Kind::Units, feed) {
         Ok(reader) => reader,
-        Err(fault) => return Ok(FeedEnd::Broken(fault)),
+        Err(fault) => return Ok(CommandEnd::Read(FeedEnd::Broken(fault))),
     };
     let mut file = match TakeFile::<L>::new(alloc, reader.config()) {
         Ok(file) => file,
@@ -64,14 +65,24 @@ fn wrap_units<N: Feed, L: TakeLayout, S: Source<N>, W: Sink>(
         Ok(()) => {}
         Err(Failed) => return Err(PutFault::Sink),
     }
+    let mut unit = UnitBuffer::new(alloc);
     'units: loop {
-        match next_unit(alloc, &mut reader, feed) {
-            Ok(Next::Item(unit)) => match file.put_unit(&unit, out) {
-                Ok(()) => {}
-                Err(fault) => return Err(fault),
+        match next_unit(&mut reader, feed, &mut unit) {
+            Ok(Next::Item) => match unit_fault(unit.as_slice(), reader.config()) {
+                None => match file.put_unit(unit.as_slice(), out) {
+                    Ok(()) => {}
+                    Err(fault) => return Err(fault),
+                },
+                Some(fault) => match file.put_tail(out) {
+                    Ok(()) => {
+                        let unit = reader.read_count() - 1;
+                        return Ok(CommandEnd::Refused { unit, fault });
+                    }
+                    Err(Failed) => return Err(PutFault::Sink),
+                },
             },
             Ok(Next::End(end)) => match file.put_tail(out) {
-                Ok(()) => return Ok(end),
+                Ok(()) => return Ok(CommandEnd::Read(end)),
                 Err(Failed) => return Err(PutFault::Sink),
             },
             Err(Memory) => return Err(PutFault::Memory),
@@ -81,58 +92,59 @@ fn wrap_units<N: Feed, L: TakeLayout, S: Source<N>, W: Sink>(
 
 /// What comes next in a feed.
 enum Next {
-    /// A unit.
-    Item(Vec<u8>),
+    /// A unit, which was read.
+    Item,
     /// The feed's end.
     End(FeedEnd),
 }
 
-/// The next unit of a feed, or how it ends: behind as many units as its configuration allows only the next marker is read.
+/// Reads the next unit of a feed, or how it ends: behind as many units as its configuration allows only the next marker is read.
 fn next_unit<N: Feed, S: Source<N>>(
-    alloc: Global,
     reader: &mut FeedReader<N>,
     feed: &mut S,
+    unit: &mut UnitBuffer,
 ) -> Result<Next, Memory>
     requires open { reader.old.stage ≡ Stage.Open }
     requires kind { reader.old.kind ≡ Kind.Units }
     requires behind { FEED_HEAD_LEN ≤ reader.old.at }
     requires most { reader.old.count ≤ reader.old.config.max_frames }
-    ensures unit { IfItem result (ReadsUnit reader.old reader.new (S.told feed.old) (S.told feed.new)) }
+    ensures unit { OnItem result (ReadsUnit reader.old reader.new (S.told feed.old) (S.told feed.new) unit.new) }
     ensures ended { IfEnd result (EndsReading reader.old (S.told feed.old) (S.told feed.new)) }
     ensures silent { StaysSilent (S.told feed.old) (S.told feed.new) }
 
-    ensures kept { IfItem result (λ unit. S.fault_count feed.new ≡ S.fault_count feed.old) }
+    ensures kept { OnItem result (S.fault_count feed.new ≡ S.fault_count feed.old) }
     ensures cause { IfEnd result (λ status ending. HasEndCause (S.fault_count feed.old) (S.fault_count feed.new) status) }
 {
     if reader.read_count() < u64::from(reader.config().max_frames) {
-        return read_unit(alloc, reader, feed);
+        return read_unit(reader, feed, unit);
     }
     Ok(Next::End(read_end(reader, feed)))
 }
 
-/// The next unit of a feed, or how it ends, where its configuration allows one more.
+/// Reads the next unit of a feed, or how it ends, where its configuration allows one more.
 fn read_unit<N: Feed, S: Source<N>>(
-    alloc: Global,
     reader: &mut FeedReader<N>,
     feed: &mut S,
+    unit: &mut UnitBuffer,
 ) -> Result<Next, Memory>
     requires open { reader.old.stage ≡ Stage.Open }
     requires kind { reader.old.kind ≡ Kind.Units }
     requires behind { FEED_HEAD_LEN ≤ reader.old.at }
     requires room { reader.old.count < reader.old.config.max_frames }
-    ensures unit { IfItem result (ReadsUnit reader.old reader.new (S.told feed.old) (S.told feed.new)) }
+    ensures unit { OnItem result (ReadsUnit reader.old reader.new (S.told feed.old) (S.told feed.new) unit.new) }
     ensures ended { IfEnd result (EndsReading reader.old (S.told feed.old) (S.told feed.new)) }
     ensures silent { StaysSilent (S.told feed.old) (S.told feed.new) }
 
-    ensures kept { IfItem result (λ unit. S.fault_count feed.new ≡ S.fault_count feed.old) }
+    ensures kept { OnItem result (S.fault_count feed.new ≡ S.fault_count feed.old) }
     ensures cause { IfEnd result (λ status ending. HasEndCause (S.fault_count feed.old) (S.fault_count feed.new) status) }
 {
     faults_are_placed();
     readings_grow();
     readings_end();
-    match reader.next_unit(alloc, feed) {
-        Ok(Some(unit)) => Ok(Next::Item(unit)),
-        Ok(None) => Ok(Next::End(FeedEnd::Clean)),
+    reader.config().ranges();
+    match reader.read_unit(feed, unit) {
+        Ok(true) => Ok(Next::Item),
+        Ok(false) => Ok(Next::End(FeedEnd::Clean)),
         Err(FeedFault::Memory) => Err(Memory),
         Err(fault) => Ok(Next::End(FeedEnd::Broken(fault))),
     }

@@ -8,13 +8,13 @@ use Rattle.rec_bytes.specs.Configuration.{Fields, first_fault, fields_of}
 use Rattle.rec_bytes.specs.laws.Spellings.{spelling_long}
 use Rattle.raw_feed.specs.declared.head.TheConstants.{FEED_HEAD_LEN}
 use Rattle.raw_feed.specs.declared.kind.Kind.{Kind}
-use Rattle.raw_feed.specs.declared.fault.FeedFault.TheVariants.{Memory, FeedHead, Marker, FeedCut, SourceFault, TooLong, UnitLong}
+use Rattle.raw_feed.specs.declared.fault.FeedFault.TheVariants.{Memory, FeedHead, Marker, FeedCut, SourceFault, TooLong, Sample, UnitLong}
 use Rattle.raw_feed.specs.Items.{Ending, Clean, Full, Broken, EndsAt, limited, item}
 use Rattle.raw_feed.specs.Feeds.{IsHead, IsFeedOf, IsFeed, DiffersAt, BreaksConfigAt, EndsInHead, magic}
 use Rattle.raw_feed.specs.Breaks.{judged_to}
 use Rattle.raw_feed.specs.HasRead.{behind_units}
 use Rattle.raw_feed.specs.declared.limits.TheConstants.{MAX_FEED}
-use Rattle.raw_feed.proofs.KindLemmas.{magic_long, magic_whole, long_there}
+use Rattle.raw_feed.proofs.KindLemmas.{magic_long, magic_whole, long_there, wrong_there}
 use Rattle.raw_feed.proofs.EndingLemmas.{marked_long}
 use Rattle.raw_feed.proofs.SplitLemmas.{Splits, one_split}
 
@@ -48,7 +48,7 @@ one_config kind head one other h k =
 
 -- a feed is its head and a split of the bytes behind it
 pub Splits-feed : (kind : Kind) (bytes : List ℕ) (config : Fields) (units : List (List ℕ)) (ending : Ending)
-    → IsFeedOf kind bytes config units ending → Splits kind config.max_frames FEED_HEAD_LEN 0 (drop FEED_HEAD_LEN bytes) units ending
+    → IsFeedOf kind bytes config units ending → Splits kind config config.max_frames FEED_HEAD_LEN 0 (drop FEED_HEAD_LEN bytes) units ending
 Splits-feed kind bytes config units ending f =
     let long : length (f.head ++ flat_map (item kind) units) ≡ FEED_HEAD_LEN + length (flat_map (item kind) units) =
     length-append f.head (flat_map (item kind) units) ∙ ap (λ (n : ℕ). n + length (flat_map (item kind) units)) (head_long kind f.head config f.configured) in
@@ -61,8 +61,8 @@ Splits-feed kind bytes config units ending f =
       sized = f.sized;
       few = omega arith;
       within = omega arith;
-      ends = subst (λ (n : ℕ). EndsAt kind (n == config.max_frames) (FEED_HEAD_LEN + length (flat_map (item kind) units)) f.rest ending) number
-          (subst (λ (p : ℕ). EndsAt kind (length units == config.max_frames) p f.rest ending) long f.ends);
+      ends = subst (λ (n : ℕ). EndsAt kind config (n == config.max_frames) (FEED_HEAD_LEN + length (flat_map (item kind) units)) f.rest ending) number
+          (subst (λ (p : ℕ). EndsAt kind config (length units == config.max_frames) p f.rest ending) long f.ends);
     }
 
 -- two feeds of the same bytes are one
@@ -74,9 +74,9 @@ one_feed_of kind bytes config config' units others ending other f g =
     let configs : config ≡ config' = one_config kind g.head config config' (subst (λ (xs : List ℕ). IsHead kind xs config) heads f.configured) g.configured in
     let mine = Splits-feed kind bytes config units ending f in
     let theirs =
-    subst (λ (max : ℕ). Splits kind max FEED_HEAD_LEN 0 (drop FEED_HEAD_LEN bytes) others other) (ap (λ (c : Fields). c.max_frames) (sym configs))
+    subst (λ (c : Fields). Splits kind c c.max_frames FEED_HEAD_LEN 0 (drop FEED_HEAD_LEN bytes) others other) (sym configs)
     (Splits-feed kind bytes config' others other g) in
-    let same = one_split kind config.max_frames FEED_HEAD_LEN 0 (drop FEED_HEAD_LEN bytes) units others ending other mine theirs in
+    let same = one_split kind config config.max_frames FEED_HEAD_LEN 0 (drop FEED_HEAD_LEN bytes) units others ending other mine theirs in
     (configs, same.0, same.1)
 
 -- the first byte that differs is one, and a right magic has none
@@ -140,6 +140,7 @@ one_head_ending kind bytes (Broken (FeedCut p)) (Broken Memory) a b = absurd b
 one_head_ending kind bytes (Broken (FeedCut p)) (Broken (Marker q)) a b = absurd b
 one_head_ending kind bytes (Broken (FeedCut p)) (Broken (SourceFault q)) a b = absurd b
 one_head_ending kind bytes (Broken (FeedCut p)) (Broken (TooLong q)) a b = absurd b
+one_head_ending kind bytes (Broken (FeedCut p)) (Broken (Sample q)) a b = absurd b
 one_head_ending kind bytes (Broken (FeedCut p)) (Broken (UnitLong q)) a b = absurd b
 one_head_ending kind bytes (Broken (FeedHead p)) Clean a b = absurd b
 one_head_ending kind bytes (Broken (FeedHead p)) Full a b = absurd b
@@ -147,6 +148,7 @@ one_head_ending kind bytes (Broken (FeedHead p)) (Broken Memory) a b = absurd b
 one_head_ending kind bytes (Broken (FeedHead p)) (Broken (Marker q)) a b = absurd b
 one_head_ending kind bytes (Broken (FeedHead p)) (Broken (SourceFault q)) a b = absurd b
 one_head_ending kind bytes (Broken (FeedHead p)) (Broken (TooLong q)) a b = absurd b
+one_head_ending kind bytes (Broken (FeedHead p)) (Broken (Sample q)) a b = absurd b
 one_head_ending kind bytes (Broken (FeedHead p)) (Broken (UnitLong q)) a b = absurd b
 one_head_ending kind bytes Clean other a b = absurd a
 one_head_ending kind bytes Full other a b = absurd a
@@ -154,6 +156,7 @@ one_head_ending kind bytes (Broken Memory) other a b = absurd a
 one_head_ending kind bytes (Broken (Marker p)) other a b = absurd a
 one_head_ending kind bytes (Broken (SourceFault p)) other a b = absurd a
 one_head_ending kind bytes (Broken (TooLong p)) other a b = absurd a
+one_head_ending kind bytes (Broken (Sample p)) other a b = absurd a
 one_head_ending kind bytes (Broken (UnitLong p)) other a b = absurd a
 
 pub not_in_head : (kind : Kind) (bytes : List ℕ) (config : Fields) (units : List (List ℕ)) (ending other : Ending)
@@ -172,6 +175,7 @@ not_in_head kind bytes config units ending (Broken Memory) f a = a
 not_in_head kind bytes config units ending (Broken (Marker p)) f a = a
 not_in_head kind bytes config units ending (Broken (SourceFault p)) f a = a
 not_in_head kind bytes config units ending (Broken (TooLong p)) f a = a
+not_in_head kind bytes config units ending (Broken (Sample p)) f a = a
 not_in_head kind bytes config units ending (Broken (UnitLong p)) f a = a
 
 -- two splits of the same bytes are one
@@ -184,17 +188,20 @@ one_feed kind bytes units others ending other (inr (none, ends)) (inl (config, g
 one_feed kind bytes units others ending other (inr (none, ends)) (inr (none', ends')) = (none ∙ sym none', one_head_ending kind bytes ending other ends ends')
 
 -- the bytes that judge an ending are there
-judged_at : (kind : Kind) (full : Bool) (at : ℕ) (rest : List ℕ) (ending : Ending) → EndsAt kind full at rest ending → judged_to at ending ≤ at + length rest
-judged_at kind full at rest Clean e = omega arith
-judged_at kind full at rest Full e = let m = marked_long kind (limited at rest) e.1 in let l = length-take (MAX_FEED - at) rest in omega arith
-judged_at kind full at rest (Broken (Marker place)) e = let m = e.1 in let l = length-take (MAX_FEED - at) rest in omega arith
-judged_at kind full at rest (Broken (UnitLong place)) e =
+judged_at : (kind : Kind) (config : Fields) (full : Bool) (at : ℕ) (rest : List ℕ) (ending : Ending) → EndsAt kind config full at rest ending → judged_to at ending ≤ at + length rest
+judged_at kind config full at rest Clean e = omega arith
+judged_at kind config full at rest Full e = let m = marked_long kind (limited at rest) e.1 in let l = length-take (MAX_FEED - at) rest in omega arith
+judged_at kind config full at rest (Broken (Marker place)) e = let m = e.1 in let l = length-take (MAX_FEED - at) rest in omega arith
+judged_at kind config full at rest (Broken (UnitLong place)) e =
     let m = long_there kind (limited at rest) e.3 in let l = length-take (MAX_FEED - at) rest in omega arith
-judged_at kind full at rest (Broken (FeedCut place)) e = let m = e.0 in omega arith
-judged_at kind full at rest (Broken (TooLong place)) e = let m = e.0 in let n = e.1 in omega arith
-judged_at kind full at rest (Broken (FeedHead place)) e = absurd e
-judged_at kind full at rest (Broken (SourceFault count)) e = absurd e
-judged_at kind full at rest (Broken Memory) e = absurd e
+judged_at kind config full at rest (Broken (Sample place)) e =
+    let from = e.0 in
+    let m = wrong_there kind config (limited at rest) (place - (at + 4)) e.3 in let l = length-take (MAX_FEED - at) rest in omega arith
+judged_at kind config full at rest (Broken (FeedCut place)) e = let m = e.0 in omega arith
+judged_at kind config full at rest (Broken (TooLong place)) e = let m = e.0 in let n = e.1 in omega arith
+judged_at kind config full at rest (Broken (FeedHead place)) e = absurd e
+judged_at kind config full at rest (Broken (SourceFault count)) e = absurd e
+judged_at kind config full at rest (Broken Memory) e = absurd e
 
 judged_head : (kind : Kind) (at : ℕ) (bytes : List ℕ) (ending : Ending) → EndsInHead kind bytes ending → judged_to at ending ≤ length bytes
 judged_head kind at bytes (Broken (FeedCut place)) e = let m = e.0 in omega arith
@@ -202,6 +209,7 @@ judged_head kind at bytes (Broken (FeedHead place)) e = e.0
 judged_head kind at bytes Clean e = absurd e
 judged_head kind at bytes Full e = absurd e
 judged_head kind at bytes (Broken (Marker place)) e = absurd e
+judged_head kind at bytes (Broken (Sample place)) e = absurd e
 judged_head kind at bytes (Broken (UnitLong place)) e = absurd e
 judged_head kind at bytes (Broken (TooLong place)) e = absurd e
 judged_head kind at bytes (Broken (SourceFault count)) e = absurd e
@@ -213,7 +221,7 @@ judged_there kind bytes units ending (inl (config, f)) =
     let front = f.head ++ flat_map (item kind) units in
     let at_is : length front ≡ behind_units kind units =
     length-append f.head (flat_map (item kind) units) ∙ ap (λ (n : ℕ). n + length (flat_map (item kind) units)) (head_long kind f.head config f.configured) in
-    let judged = judged_at kind (length units == config.max_frames) (length front) f.rest ending f.ends in
+    let judged = judged_at kind config (length units == config.max_frames) (length front) f.rest ending f.ends in
     let all : length bytes ≡ length front + length f.rest = ap (length {A = ℕ}) f.split ∙ length-append front f.rest in
     let here : judged_to (length front) ending ≤ length bytes = omega arith in
     subst (λ (p : ℕ). judged_to p ending ≤ length bytes) at_is here

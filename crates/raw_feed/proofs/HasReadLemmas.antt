@@ -11,17 +11,18 @@ use Rattle.raw_feed.specs.declared.head.TheConstants.{FEED_HEAD_LEN}
 use Rattle.raw_feed.specs.declared.limits.TheConstants.{MAX_FEED}
 use Rattle.raw_feed.specs.declared.kind.Kind.{Kind}
 use Rattle.raw_feed.specs.declared.fault.FeedFault.{FeedFault}
-use Rattle.raw_feed.specs.declared.fault.FeedFault.TheVariants.{Memory, FeedHead, Marker, FeedCut, SourceFault, TooLong, UnitLong}
+use Rattle.raw_feed.specs.declared.fault.FeedFault.TheVariants.{Memory, FeedHead, Marker, FeedCut, SourceFault, TooLong, Sample, UnitLong}
 use Rattle.raw_feed.specs.declared.stage.Stage.{Stage}
 use Rattle.raw_feed.specs.declared.stage.Stage.TheVariants.{Open, Marked, Ended, Refused}
 use Rattle.raw_feed.specs.Told.{Told, after}
 use Rattle.raw_feed.specs.Items.{Ending, Clean, Full, Broken, EndsAt, IsMarked, IsSized, limited, marker, item}
 use Rattle.raw_feed.specs.Feeds.{IsHead, IsFeedOf}
-use Rattle.raw_feed.specs.Breaks.{Breaks, EndsBy, Gave, IsBreak, Answers, judged_to}
+use Rattle.raw_feed.specs.Breaks.{Breaks, EndsBy, Gave, IsBreak, Answers, Reaches}
 use Rattle.raw_feed.specs.Reading.{Reading, IfTold, ReadsHead, GivesUnit, GivesMarker, EndsClean, RefusesItem, RefusesMarker, begun, counted}
 use Rattle.raw_feed.specs.HasRead.{HasRead, EndsFeed, MayReadOn, behind_units}
-use Rattle.raw_feed.proofs.KindLemmas.{marker_long}
+use Rattle.raw_feed.proofs.KindLemmas.{marker_long, reaches}
 use Rattle.raw_feed.proofs.PartLemmas.{Gave-none, Gave-more, Gave-rest}
+use Rattle.raw_feed.proofs.BreakLemmas.{may_fail}
 use Rattle.raw_feed.proofs.FeedLemmas.{head_long}
 use Rattle.raw_feed.proofs.SplitLemmas.{not_full}
 
@@ -42,7 +43,7 @@ fresh kind config head before now right gave =
       gave = subst (λ (xs : List ℕ). Gave xs before now) (none ∙ sym (append-nil (head ++ []))) gave;
       counted = refl;
       placed = sym long ∙ same;
-      sized = All-nil (IsSized kind);
+      sized = All-nil (IsSized kind config);
       few = omega arith;
       within = omega arith;
       may = tt;
@@ -62,7 +63,7 @@ abbrev Rest : Reading → Stage → Option Told → Option Told → List ℕ →
 Rest old stage told now unit = IfTold told now (λ before. (rest : List ℕ) × (begun old.kind stage ++ rest ≡ item old.kind unit) × Gave rest before now)
 
 gives : (stage : Stage) (old new : Reading) (told now : Option Told) (unit : List ℕ) → GivesUnit stage old new told now unit
-    → IsSized old.kind unit × (old.at + length (item old.kind unit) ≤ MAX_FEED) × (new ≡ counted old unit) × Rest old stage told now unit
+    → IsSized old.kind old.config unit × (old.at + length (item old.kind unit) ≤ MAX_FEED) × (new ≡ counted old unit) × Rest old stage told now unit
 gives Open old new told now unit g = g
 gives Marked old new told now unit g = g
 gives Ended old new told now unit g = absurd g
@@ -94,7 +95,7 @@ reading_grows old new units unit before mid now h room g =
       gave = subst (λ (xs : List ℕ). Gave xs before now) (behind ∙ sym (append-nil (h.head ++ flat_map some (units ++ unit ∷ [])))) given;
       counted = omega arith;
       placed = omega arith;
-      sized = All-push (IsSized old.kind) units unit h.sized p.0;
+      sized = All-push (IsSized old.kind old.config) units unit h.sized p.0;
       few = omega arith;
       within = omega arith;
       may = tt;
@@ -151,7 +152,7 @@ is_full reading = reading.count == reading.config.max_frames
 -- the feed whose head and items were read, and that ends so behind them
 feed_of : (reading : Reading) (units : List (List ℕ)) (before : Told) (now : Option Told) (h : HasRead reading units before now)
     (bytes rest : List ℕ) (ending : Ending)
-    → bytes ≡ (h.head ++ flat_map (item reading.kind) units) ++ rest → EndsAt reading.kind (is_full reading) reading.at rest ending
+    → bytes ≡ (h.head ++ flat_map (item reading.kind) units) ++ rest → EndsAt reading.kind reading.config (is_full reading) reading.at rest ending
     → IsFeedOf reading.kind bytes reading.config units ending
 feed_of reading units before now h bytes rest ending bytes_is ends =
     let within = h.within in
@@ -164,14 +165,14 @@ feed_of reading units before now h bytes rest ending bytes_is ends =
       sized = h.sized;
       few = h.few;
       within = omega arith;
-      ends = subst (λ (n : ℕ). EndsAt reading.kind (length units == reading.config.max_frames) n rest ending) placed
-          (subst (λ (n : ℕ). EndsAt reading.kind (n == reading.config.max_frames) reading.at rest ending) h.counted ends);
+      ends = subst (λ (n : ℕ). EndsAt reading.kind reading.config (length units == reading.config.max_frames) n rest ending) placed
+          (subst (λ (n : ℕ). EndsAt reading.kind reading.config (n == reading.config.max_frames) reading.at rest ending) h.counted ends);
     }
 
 -- how the feed ends behind what was begun of the next item
 abbrev EndsHere : Reading → Ending → Told → Option Told → Type 0
 EndsHere r answer =
-    EndsBy (λ rest ending. EndsAt r.kind (is_full r) r.at (begun r.kind r.stage ++ rest) ending) (r.at + length (begun r.kind r.stage)) r.at answer
+    EndsBy r.kind (λ rest ending. EndsAt r.kind r.config (is_full r) r.at (begun r.kind r.stage ++ rest) ending) (r.at + length (begun r.kind r.stage)) r.at answer
 
 -- where the feed ends at the reader's place, it ends so as a whole
 feed_ends : (reading : Reading) (units : List (List ℕ)) (before : Told) (mid now : Option Told) (answer : Ending)
@@ -183,14 +184,17 @@ feed_ends reading units before mid now answer h ends =
     let b = told_there (front ++ first) before mid now (λ t. EndsHere reading answer t now) h.gave ends in
     let left = drop (length (front ++ first)) before.left in
     let place = placed_behind reading units before mid h in
-    let reach : reading.at + length first + length b.given ≡ judged_to (behind_units reading.kind units) b.ending =
-    subst (λ (p : ℕ). reading.at + length first + length b.given ≡ judged_to p b.ending) place b.reach in
+    let all : reading.at + length first + length b.given ≡ 0 + length ((front ++ first) ++ b.given) =
+    let l = length-append front first in let m = length-append (front ++ first) b.given in let p = h.placed in omega arith in
+    let reach : Reaches reading.kind (0 + length ((front ++ first) ++ b.given)) (behind_units reading.kind units) b.ending =
+    subst (λ (p : ℕ). Reaches reading.kind (0 + length ((front ++ first) ++ b.given)) p b.ending) place
+    (subst (λ (n : ℕ). Reaches reading.kind n reading.at b.ending) all b.reach) in
     record {
       given = (front ++ first) ++ b.given;
       gave = Gave-more (length (front ++ first)) (front ++ first) b.given before now refl h.gave.0 b.gave;
       ending = b.ending;
       read = feed_of reading units before mid h ((front ++ first) ++ b.given) (first ++ b.given) b.ending (append_assoc front first b.given) b.read;
-      reach = let l = length-append front first in let m = length-append (front ++ first) b.given in let p = h.placed in omega arith;
+      reach = reach;
       answered = b.answered;
       shown =
           λ s. feed_of reading units before mid h before.left (first ++ left) answer
@@ -198,14 +202,15 @@ feed_ends reading units before mid now answer h ends =
     }
 
 -- the reader stopped behind a whole item
-untold_fault : (fault : FeedFault) → (IsBreak fault → ⊥) → Answers (Broken fault) Clean
-untold_fault Memory unseen = tt
-untold_fault (SourceFault count) unseen = tt
-untold_fault (FeedHead at) unseen = absurd (unseen tt)
-untold_fault (Marker at) unseen = absurd (unseen tt)
-untold_fault (FeedCut at) unseen = absurd (unseen tt)
-untold_fault (TooLong at) unseen = absurd (unseen tt)
-untold_fault (UnitLong at) unseen = absurd (unseen tt)
+untold_fault : (kind : Kind) (fault : FeedFault) → (IsBreak fault → ⊥) → Answers kind (Broken fault) Clean
+untold_fault kind Memory unseen = tt
+untold_fault kind (SourceFault count) unseen = may_fail kind Clean tt
+untold_fault kind (FeedHead at) unseen = absurd (unseen tt)
+untold_fault kind (Marker at) unseen = absurd (unseen tt)
+untold_fault kind (FeedCut at) unseen = absurd (unseen tt)
+untold_fault kind (TooLong at) unseen = absurd (unseen tt)
+untold_fault kind (Sample at) unseen = absurd (unseen tt)
+untold_fault kind (UnitLong at) unseen = absurd (unseen tt)
 
 stops : (kind : Kind) (config : Fields) (count at : ℕ) (stage : Stage) (units : List (List ℕ)) (before : Told) (now : Option Told) (fault : FeedFault)
     → HasRead (reader kind config count at stage) units before now → stage ≡ Open → (IsBreak fault → ⊥)
@@ -218,8 +223,8 @@ stops kind config count at Open units before now fault h still unseen =
       gave = subst (λ (t : Option Told). Gave [] (after (length (front ++ [])) before) t) (sym h.gave.1) (Gave-none (after (length (front ++ [])) before));
       ending = Clean;
       read = refl;
-      reach = omega arith;
-      answered = untold_fault fault unseen;
+      reach = reaches kind (at + length {A = ℕ} [] + length {A = ℕ} []) at Clean (omega arith);
+      answered = untold_fault kind fault unseen;
       shown = λ s. absurd (unseen s);
     }))
 stops kind config count at Marked units before now fault h still unseen = absurd (cc)
@@ -240,7 +245,7 @@ clean_here kind config count at b now none same = record {
   gave = subst (λ (t : Option Told). Gave [] b t) (sym same) (Gave-none b);
   ending = Clean;
   read = refl;
-  reach = omega arith;
+  reach = reaches kind (at + length {A = ℕ} [] + length {A = ℕ} []) at Clean (omega arith);
   answered = refl;
   shown = λ s. none;
 }
@@ -275,7 +280,7 @@ full_here kind config count at b room all =
       gave = Gave-none b;
       ending = Full;
       read = (full, there []);
-      reach = omega arith;
+      reach = reaches kind (at + length (marker kind) + length {A = ℕ} []) at Full (omega arith);
       answered = refl;
       shown = λ s. (full, there b.left);
     }
@@ -295,7 +300,7 @@ reading_ends_full old new units before mid now h all g =
 
 -- the next item can't be read
 refuses : (stage : Stage) (old new : Reading) (told now : Option Told) (fault : FeedFault) → MayReadOn stage
-    → RefusesItem stage old new told now fault → IfTold told now (λ b. Breaks old.kind false old.at (begun old.kind stage) b now fault)
+    → RefusesItem stage old new told now fault → IfTold told now (λ b. Breaks old.kind old.config false old.at (begun old.kind stage) b now fault)
 refuses Open old new told now fault may r = r.2
 refuses Marked old new told now fault may r = r.2
 refuses Ended old new told now fault may r = absurd may
@@ -307,7 +312,7 @@ pub reading_ends_item : (old new : Reading) (units : List (List ℕ)) (before : 
 reading_ends_item old new units before mid now fault h room r =
     let b = refuses old.stage old new mid now fault h.may r in
     feed_ends old units before mid now (Broken fault) h
-    (subst (λ (f : Bool). IfTold mid now (λ t. Breaks old.kind f old.at (begun old.kind old.stage) t now fault))
+    (subst (λ (f : Bool). IfTold mid now (λ t. Breaks old.kind old.config f old.at (begun old.kind old.stage) t now fault))
     (sym (not_full old.count old.config.max_frames room)) b)
 
 -- the next marker can't be read
@@ -318,7 +323,7 @@ ends_marker : (kind : Kind) (config : Fields) (count at : ℕ) (stage : Stage) (
     → EndsFeed kind config units (Broken fault) before now
 ends_marker kind config count at Open new units before mid now fault h (named, is, broken) =
     let given = (h.head ++ flat_map (item kind) units) ++ [] in
-    let b = told_there given before mid now (λ t. (full : Bool) → Breaks kind full at [] t now fault) h.gave broken in
+    let b = told_there given before mid now (λ t. (full : Bool) → Breaks kind config full at [] t now fault) h.gave broken in
     feed_ends (reader kind config count at Open) units before mid now (Broken fault) h
     (subst (λ (t : Option Told). IfTold t now (λ t. EndsHere (reader kind config count at Open) (Broken fault) t now)) (sym h.gave.1)
     (b (count == config.max_frames)))

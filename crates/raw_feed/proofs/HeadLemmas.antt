@@ -5,14 +5,15 @@ use Rattle.rec_bytes.specs.Configuration.{Fields, Spells, first_fault}
 use Rattle.raw_feed.specs.declared.head.TheConstants.{FEED_HEAD_LEN}
 use Rattle.raw_feed.specs.declared.kind.Kind.{Kind}
 use Rattle.raw_feed.specs.declared.fault.FeedFault.{FeedFault}
-use Rattle.raw_feed.specs.declared.fault.FeedFault.TheVariants.{Memory, FeedHead, Marker, FeedCut, SourceFault, TooLong, UnitLong}
+use Rattle.raw_feed.specs.declared.fault.FeedFault.TheVariants.{Memory, FeedHead, Marker, FeedCut, SourceFault, TooLong, Sample, UnitLong}
 use Rattle.raw_feed.specs.Told.{Told}
 use Rattle.raw_feed.specs.Items.{Broken}
 use Rattle.raw_feed.specs.Feeds.{IsHead, DiffersAt, BreaksConfigAt, EndsInHead, magic}
 use Rattle.raw_feed.specs.Breaks.{BreaksHead, Gave}
 use Rattle.raw_feed.specs.inner.Parts.{Fills, TakesPart}
 use Rattle.raw_feed.specs.Reading.{IfTold}
-use Rattle.raw_feed.proofs.KindLemmas.{magic_long}
+use Rattle.raw_feed.proofs.KindLemmas.{magic_long, reaches}
+use Rattle.raw_feed.proofs.BreakLemmas.{may_fail}
 use Rattle.raw_feed.proofs.PartLemmas.{Gave-take, Gave-filled}
 
 -- a head that didn't come whole
@@ -28,8 +29,9 @@ BreaksHead-part kind (Some before) now out (SourceFault n) long part =
       gave = Gave-take k before now there part.moved;
       ending = Broken (FeedCut (length (take k before.left)));
       read = (refl, (let l = length-take k before.left in omega arith));
-      reach = omega arith;
-      answered = tt;
+      reach =
+          reaches kind (0 + length (take k before.left)) FEED_HEAD_LEN (Broken (FeedCut (length (take k before.left)))) (omega arith);
+      answered = may_fail kind (Broken (FeedCut (length (take k before.left)))) tt;
       shown = λ is. absurd is;
     }
 BreaksHead-part kind (Some before) now out (TooLong place) long part = let wants = part.1.wants in absurd (omega arith)
@@ -37,6 +39,7 @@ BreaksHead-part kind (Some before) now out Memory long part = absurd part
 BreaksHead-part kind (Some before) now out (FeedHead at) long part = absurd part
 BreaksHead-part kind (Some before) now out (Marker at) long part = absurd part
 BreaksHead-part kind (Some before) now out (FeedCut at) long part = absurd part
+BreaksHead-part kind (Some before) now out (Sample at) long part = absurd part
 BreaksHead-part kind (Some before) now out (UnitLong at) long part = absurd part
 
 -- a head that is cut
@@ -54,7 +57,8 @@ BreaksHead-cut kind n (Some before) now out long fewer part =
       gave = Gave-take n before now fills.there fills.moved;
       ending = Broken (FeedCut n);
       read = here;
-      reach = let l = length-take n before.left in omega arith;
+      reach =
+          reaches kind (0 + length (take n before.left)) FEED_HEAD_LEN (Broken (FeedCut n)) (let l = length-take n before.left in omega arith);
       answered = refl;
       shown = λ is. ends;
     }
@@ -91,7 +95,8 @@ BreaksHead-wrong kind n at (Some before) now out long enough wrong part =
       gave = Gave-filled n head before now out (omega arith) came.2 part.1;
       ending = Broken (FeedHead at);
       read = here;
-      reach = let l = length-take FEED_HEAD_LEN before.left in omega arith;
+      reach =
+          reaches kind (0 + length head) FEED_HEAD_LEN (Broken (FeedHead at)) (let l = length-take FEED_HEAD_LEN before.left in omega arith);
       answered = refl;
       shown = λ is. (came.1, broken);
     }

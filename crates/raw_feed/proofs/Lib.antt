@@ -6,7 +6,10 @@ pub mod HeadLemmas
 pub mod KindLemmas
 pub mod Moves
 pub mod PartLemmas
+pub mod PictureFeedLemmas
+pub mod PictureLemmas
 pub mod ReadingLemmas
+pub mod SampleLemmas
 pub mod SplitLemmas
 pub mod TotalLemmas
 pub mod UnitLemmas

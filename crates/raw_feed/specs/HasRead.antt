@@ -1,4 +1,4 @@
--- What a reader has read of a feed, and how the feed ends for it (own). docs/FORMATS.md, "Feeds".
+-- What a reader has read of a feed, and how the feed ends for it (own). docs/formats/feed.md, "Feeds".
 use Rattle.std.specs.Prelude.{◌≡◌, ◌≤◌, ◌+◌, ◌++◌, ℕ, List, length, All, Option}
 use Rattle.std.specs.List.{flat_map}
 use Rattle.rec_bytes.specs.Configuration.{Fields}
@@ -27,7 +27,7 @@ pub record HasRead (reading : Reading) (units : List (List ℕ)) (before : Told)
   pub gave : Gave ((head ++ flat_map (item reading.kind) units) ++ begun reading.kind reading.stage) before now
   pub counted : reading.count ≡ length units
   pub placed : reading.at ≡ length (head ++ flat_map (item reading.kind) units)
-  pub sized : All (IsSized reading.kind) units
+  pub sized : All (IsSized reading.kind reading.config) units
   pub few : length units ≤ reading.config.max_frames
   pub within : reading.at + length (begun reading.kind reading.stage) ≤ MAX_FEED
   pub may : MayReadOn reading.stage
@@ -39,4 +39,4 @@ behind_units kind units = FEED_HEAD_LEN + length (flat_map (item kind) units)
 -- the feed has these units, and ends so for its reader
 abbrev pub EndsFeed : Kind → Fields → List (List ℕ) → Ending → Told → Option Told → Type 0
 EndsFeed kind config units answer before now =
-    EndsBy (λ bytes ending. IsFeedOf kind bytes config units ending) 0 (behind_units kind units) answer before now
+    EndsBy kind (λ bytes ending. IsFeedOf kind bytes config units ending) 0 (behind_units kind units) answer before now

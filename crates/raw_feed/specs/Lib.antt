@@ -2,6 +2,7 @@ pub mod Breaks
 pub mod Feeds
 pub mod HasRead
 pub mod Items
+pub mod Pictures
 pub mod Reading
 pub mod Refusals
 pub mod Told

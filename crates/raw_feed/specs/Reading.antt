@@ -54,7 +54,7 @@ abbrev pub GivesUnit : Stage → Reading → Reading → Option Told → Option 
 GivesUnit Ended old new told now unit = ⊥
 GivesUnit (Refused fault) old new told now unit = ⊥
 GivesUnit stage old new told now unit =
-    IsSized old.kind unit × (old.at + length (item old.kind unit) ≤ MAX_FEED) × (new ≡ counted old unit)
+    IsSized old.kind old.config unit × (old.at + length (item old.kind unit) ≤ MAX_FEED) × (new ≡ counted old unit)
     × IfTold told now (λ before. (rest : List ℕ) × (begun old.kind stage ++ rest ≡ item old.kind unit) × Gave rest before now)
 
 -- the feed has ended after a whole item, and was known to before or is so now
@@ -69,7 +69,7 @@ RefusesItem Ended old new told now fault = ⊥
 RefusesItem (Refused known) old new told now fault = (fault ≡ known) × (new ≡ old) × (now ≡ told)
 RefusesItem stage old new told now fault =
     IsItemFault old.at fault × (new ≡ staged old (Refused fault))
-    × IfTold told now (λ before. Breaks old.kind false old.at (begun old.kind stage) before now fault)
+    × IfTold told now (λ before. Breaks old.kind old.config false old.at (begun old.kind stage) before now fault)
 
 -- the marker of the next item was read, before or now
 abbrev pub GivesMarker : Stage → Reading → Reading → Option Told → Option Told → Type 0
@@ -82,7 +82,7 @@ GivesMarker stage old new told now = ⊥
 abbrev pub RefusesMarker : Stage → Reading → Reading → Option Told → Option Told → FeedFault → Type 0
 RefusesMarker Open old new told now fault =
     IsMarkerFault old.at fault × (new ≡ staged old (Refused fault))
-    × IfTold told now (λ before. (full : Bool) → Breaks old.kind full old.at [] before now fault)
+    × IfTold told now (λ before. (full : Bool) → Breaks old.kind old.config full old.at [] before now fault)
 RefusesMarker (Refused known) old new told now fault = (fault ≡ known) × (new ≡ old) × (now ≡ told)
 RefusesMarker stage old new told now fault = ⊥
 

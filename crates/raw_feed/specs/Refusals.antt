@@ -1,10 +1,10 @@
--- Which refusals a call of a reader has, whatever its source tells (own). docs/FORMATS.md, "Refusals".
+-- Which refusals a call of a reader has, whatever its source tells (own). docs/formats/program.md, "Refusals".
 use Rattle.std.specs.Prelude.{◌≡◌, ◌≤◌, ◌<◌, ◌+◌, ℕ}
-use Rattle.raw_feed.specs.declared.kind.TheConstants.{MARKER_LEN, UNIT_HEAD_LEN}
+use Rattle.raw_feed.specs.declared.kind.TheConstants.{MARKER_LEN, UNIT_HEAD_LEN, SAMPLE_LEN}
 use Rattle.raw_feed.specs.declared.head.TheConstants.{FEED_HEAD_LEN}
 use Rattle.raw_feed.specs.declared.limits.TheConstants.{MAX_FEED}
 use Rattle.raw_feed.specs.declared.fault.FeedFault.{FeedFault}
-use Rattle.raw_feed.specs.declared.fault.FeedFault.TheVariants.{Memory, FeedHead, Marker, FeedCut, SourceFault, TooLong, UnitLong}
+use Rattle.raw_feed.specs.declared.fault.FeedFault.TheVariants.{Memory, FeedHead, Marker, FeedCut, SourceFault, TooLong, Sample, UnitLong}
 
 -- of a head
 abbrev pub IsHeadFault : FeedFault → Type 0
@@ -25,6 +25,7 @@ IsMarkerFault at fault = ⊥
 abbrev pub IsItemFault : ℕ → FeedFault → Type 0
 IsItemFault at Memory = Unit {0}
 IsItemFault at (UnitLong place) = (place ≡ at + MARKER_LEN) × (at + UNIT_HEAD_LEN ≤ MAX_FEED)
+IsItemFault at (Sample place) = (at + MARKER_LEN ≤ place) × (place + SAMPLE_LEN ≤ MAX_FEED)
 IsItemFault at (FeedCut place) = (at < place) × (place ≤ MAX_FEED)
 IsItemFault at (TooLong place) = place ≡ MAX_FEED
 IsItemFault at fault = IsMarkerFault at fault
@@ -35,6 +36,7 @@ IsFeedFault (FeedHead place) = place < FEED_HEAD_LEN
 IsFeedFault (Marker place) = (FEED_HEAD_LEN ≤ place) × (place + MARKER_LEN ≤ MAX_FEED)
 IsFeedFault (FeedCut place) = place ≤ MAX_FEED
 IsFeedFault (TooLong place) = place ≡ MAX_FEED
+IsFeedFault (Sample place) = (FEED_HEAD_LEN + MARKER_LEN ≤ place) × (place + SAMPLE_LEN ≤ MAX_FEED)
 IsFeedFault (UnitLong place) = (FEED_HEAD_LEN + MARKER_LEN ≤ place) × (place < MAX_FEED)
 IsFeedFault (SourceFault count) = Unit {0}
 IsFeedFault Memory = Unit {0}

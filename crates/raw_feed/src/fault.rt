@@ -22,6 +22,9 @@ pub enum FeedFault {
     /// The feed goes on behind its limit.
     #[error("the feed has more than {at} bytes")]
     TooLong { at: u64 },
+    /// The first byte of a picture's first sample above 1023.
+    #[error("the sample at byte {at} is above 1023")]
+    Sample { at: u64 },
     /// The first byte of a unit's length that is too large.
     #[error("the length at byte {at} is too large")]
     UnitLong { at: u64 },

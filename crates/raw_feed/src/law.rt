@@ -1,5 +1,7 @@
 ghost use Rattle.std.specs.Prelude.{◌≡◌, ◌<◌, ◌≤◌, length, slice_index, ◌++◌, ◌∷◌, [], ℕ, List, Option, Some};
 ghost use Rattle.rec_bytes.specs.Configuration.{Fields};
+ghost use Rattle.picture_plane.specs.Pictures.{Planes};
+ghost use Rattle.raw_feed.specs.Pictures.{IsPictureFeed};
 ghost use Rattle.raw_feed.specs.Told.{Told};
 ghost use Rattle.raw_feed.specs.Items.{Ending, Clean, Full, Broken};
 ghost use Rattle.raw_feed.specs.Feeds.{IsFeed, IsFeedOf};
@@ -26,6 +28,14 @@ pub fn feeds_are_one()
         → IsFeedOf kind bytes one units ending → IsFeedOf kind bytes two others other → one ≡ two }
     ensures judged { (kind : Kind) (bytes : List ℕ) (units : List (List ℕ)) (ending : Ending)
         → IsFeed kind bytes units ending → judged_to (behind_units kind units) ending ≤ length bytes }
+{}
+
+/// Shows that a feed of pictures has one list of pictures and one ending. It does nothing when it
+/// runs.
+pub fn pictures_are_one()
+    ensures { (bytes : List ℕ) (one two : Fields) (pictures others : List Planes) (ending other : Ending)
+        → IsPictureFeed bytes one pictures ending → IsPictureFeed bytes two others other
+        → (pictures ≡ others) × (ending ≡ other) }
 {}
 
 /// Shows what the calls of a reader add up to, over a source that tells its bytes: what was read

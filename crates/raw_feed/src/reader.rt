@@ -1,6 +1,8 @@
 ghost use Rattle.std.specs.Prelude.{◌≡◌, ◌≤◌, ◌<◌, ◌+◌, true, false, IfOk, IfErr, IfSome, IfNone};
 ghost use Rattle.std.specs.Bool.{OnTrue, OnFalse};
 ghost use Rattle.rec_bytes.specs.Views.{view};
+ghost use Rattle.picture_plane.specs.Sizes.{size_of};
+ghost use Rattle.raw_feed.specs.Pictures.{GivesPicture};
 ghost use Rattle.raw_feed.specs.Breaks.{BreaksHead, HasFeedCause};
 ghost use Rattle.raw_feed.specs.Refusals.{IsHeadFault};
 ghost use Rattle.raw_feed.specs.Reading.{ReadsHead, IfTold, HasReaderCause};
@@ -8,10 +10,13 @@ ghost use Rattle.raw_feed.specs.Reading.{GivesUnit, EndsClean, RefusesItem, Give
 
 use crate::fault::FeedFault;
 use crate::head::{FEED_HEAD_LEN, read_head};
-use crate::kind::Kind;
+use crate::kind::{Kind, MARKER_LEN, SAMPLE_LEN, UNIT_HEAD_LEN};
+use crate::picture::read_picture;
 use crate::source::{Feed, Source};
 use crate::stage::Stage;
-use crate::unit::{item_len, read_item, read_marker};
+use crate::unit::read_marker;
+use crate::unit_buffer::UnitBuffer;
+use picture_plane::Picture;
 use rec_bytes::Config;
 use std::alloc::Global;
 use std::marker::{Model, PhantomData};
@@ -89,6 +94,7 @@ impl<N: Feed> FeedReader<N> {
             EndsClean self.old.stage self.old self.new (S.told source.old) (S.told source.new))) }
         ensures refused { IfErr result (
             RefusesMarker self.old.stage self.old self.new (S.told source.old) (S.told source.new)) }
+        ensures kept { (self.new.kind ≡ self.old.kind) × (self.new.config ≡ self.old.config) }
         ensures cause { HasReaderCause self.old.stage
             (S.fault_count source.old) (S.fault_count source.new) result }
     {
@@ -113,13 +119,88 @@ impl<N: Feed> FeedReader<N> {
         }
     }
 
-    /// Reads the next unit, and answers none at the end after a whole item.
+    /// Reads the next unit into a buffer, and answers false at the end after a whole item.
+    pub fn read_unit<S: Source<N>>(
+        &mut self,
+        source: &mut S,
+        unit: &mut UnitBuffer,
+    ) -> Result<bool, FeedFault>
+        requires kind { self.old.kind ≡ Kind.Units }
+        requires room { self.old.count < self.old.config.max_frames }
+        ensures unit { IfOk result (λ more. OnTrue more (
+            GivesUnit self.old.stage self.old self.new (S.told source.old) (S.told source.new) unit.new)) }
+        ensures ended { IfOk result (λ more. OnFalse more (
+            EndsClean self.old.stage self.old self.new (S.told source.old) (S.told source.new))) }
+        ensures refused { IfErr result (
+            RefusesItem self.old.stage self.old self.new (S.told source.old) (S.told source.new)) }
+        ensures kept { (self.new.kind ≡ self.old.kind) × (self.new.config ≡ self.old.config) }
+        ensures cause { HasReaderCause self.old.stage
+            (S.fault_count source.old) (S.fault_count source.new) result }
+    {
+        if !self.marker(source)? {
+            return Ok(false);
+        }
+        match unit.read_item(source, self.at) {
+            Ok(()) => {
+                self.count += 1;
+                self.at += UNIT_HEAD_LEN as u64 + unit.as_slice().len() as u64;
+                self.stage = Stage::Open;
+                Ok(true)
+            }
+            Err(fault) => {
+                self.stage = Stage::Refused(fault);
+                Err(fault)
+            }
+        }
+    }
+
+    /// Reads the next picture, and answers false at the end after a whole item. It takes no memory.
+    pub fn next_picture<S: Source<N>>(
+        &mut self,
+        source: &mut S,
+        into: &mut Picture,
+    ) -> Result<bool, FeedFault>
+        requires kind { self.old.kind ≡ Kind.Pictures }
+        requires room { self.old.count < self.old.config.max_frames }
+        requires sized { into.old.size ≡ size_of self.old.config }
+        ensures picture { IfOk result (λ more. OnTrue more (
+            GivesPicture self.old.stage self.old self.new (S.told source.old) (S.told source.new) into.new)) }
+        ensures ended { IfOk result (λ more. OnFalse more (
+            EndsClean self.old.stage self.old self.new (S.told source.old) (S.told source.new))) }
+        ensures refused { IfErr result (
+            RefusesItem self.old.stage self.old self.new (S.told source.old) (S.told source.new)) }
+        ensures size { into.new.size ≡ into.old.size }
+        ensures kept { (self.new.kind ≡ self.old.kind) × (self.new.config ≡ self.old.config) }
+        ensures cause { HasReaderCause self.old.stage
+            (S.fault_count source.old) (S.fault_count source.new) result }
+    {
+        let more = self.marker(source)?;
+        if !more {
+            return Ok(false);
+        }
+        match read_picture(source, &self.config, self.at, into) {
+            Ok(()) => {
+                into.ranges();
+                self.count += 1;
+                self.at += (MARKER_LEN + SAMPLE_LEN * into.samples().len()) as u64;
+                self.stage = Stage::Open;
+                Ok(true)
+            }
+            Err(fault) => {
+                self.stage = Stage::Refused(fault);
+                Err(fault)
+            }
+        }
+    }
+
+    /// Reads the next unit into memory of its own, and answers none at the end after a whole item.
     pub fn next_unit<S: Source<N>>(
         &mut self,
         alloc: Global,
         source: &mut S,
     ) -> Result<Option<Vec<u8>>, FeedFault>
-        requires { self.old.count < self.old.config.max_frames }
+        requires kind { self.old.kind ≡ Kind.Units }
+        requires room { self.old.count < self.old.config.max_frames }
         ensures unit { IfOk result (λ found. IfSome found (λ unit.
             GivesUnit self.old.stage self.old self.new (S.told source.old) (S.told source.new)
             unit.items)) }
@@ -127,23 +208,15 @@ impl<N: Feed> FeedReader<N> {
             EndsClean self.old.stage self.old self.new (S.told source.old) (S.told source.new))) }
         ensures refused { IfErr result (
             RefusesItem self.old.stage self.old self.new (S.told source.old) (S.told source.new)) }
+        ensures kept { (self.new.kind ≡ self.old.kind) × (self.new.config ≡ self.old.config) }
         ensures cause { HasReaderCause self.old.stage
             (S.fault_count source.old) (S.fault_count source.new) result }
     {
-        if !self.marker(source)? {
-            return Ok(None);
-        }
-        match read_item(alloc, source, self.kind, self.at) {
-            Ok(unit) => {
-                self.count += 1;
-                self.at += item_len(self.kind, &unit);
-                self.stage = Stage::Open;
-                Ok(Some(unit))
-            }
-            Err(fault) => {
-                self.stage = Stage::Refused(fault);
-                Err(fault)
-            }
+        let mut unit = UnitBuffer::new(alloc);
+        match self.read_unit(source, &mut unit) {
+            Ok(true) => Ok(Some(unit.into_vec())),
+            Ok(false) => Ok(None),
+            Err(fault) => Err(fault),
         }
     }
 }

@@ -1,9 +1,10 @@
-ghost use Rattle.std.specs.Prelude.{◌≡◌, ◌≤◌, ◌+◌, ◌-◌, None, length, take, drop, max, IfOk, IfErr, OnOk, vec_len};
-ghost use Rattle.raw_feed.specs.Items.{IsSized, item, marker};
+ghost use Rattle.std.specs.Prelude.{◌≡◌, ◌≤◌, ◌<◌, ◌+◌, None, Ok, Err, length, take, drop, max, IfOk, IfErr, vec_len};
+ghost use Rattle.rec_bytes.specs.Configuration.{Fields};
+ghost use Rattle.raw_feed.specs.Items.{marker};
 ghost use Rattle.std.specs.Bool.{OnTrue, OnFalse};
 ghost use Rattle.byteorder.specs.Endian.{big_bytes, big_number};
 ghost use Rattle.raw_feed.specs.inner.Parts.{MarkerRead, LenRead, BytesRead, ItemRead};
-ghost use Rattle.raw_feed.specs.inner.Parts.{IsPartFault, IsPieceFault, TakesPart, TakesPiece};
+ghost use Rattle.raw_feed.specs.inner.Parts.{IsPartFault, TakesPart};
 ghost use Rattle.raw_feed.specs.Breaks.{HasFeedCause};
 ghost use Rattle.raw_feed.specs.Refusals.{IsMarkerFault, IsItemFault};
 
@@ -13,7 +14,6 @@ use crate::limits::{MAX_FEED, MAX_UNIT};
 use crate::part::read_part;
 use crate::source::{Feed, Source};
 use byteorder::{BigEndian, ByteOrder};
-use std::alloc::Global;
 
 /// Bytes of a unit that are wanted before the first of them is there.
 const FIRST_PIECE: usize = 0x10_0000;
@@ -86,135 +86,120 @@ fn len_of(bytes: &[u8; 4]) -> u32
     BigEndian::read_u32(bytes)
 }
 
-/// Reads the rest of the item at a place, behind its marker.
-pub(crate) fn read_item<N: Feed, S: Source<N>>(
-    alloc: Global,
-    source: &mut S,
-    kind: Kind,
-    at: u64,
-) -> Result<Vec<u8>, FeedFault>
-    requires { at + MARKER_LEN ≤ MAX_FEED }
-    ensures sized { IfOk result (λ unit. IsSized kind unit.items × (at + length (item kind unit.items) ≤ MAX_FEED)) }
-    ensures named { IfErr result (IsItemFault at) }
-    ensures read { IfOk result (λ unit.
-        ItemRead kind at (S.told source.old) (S.told source.new) (Ok unit.items)) }
-    ensures broken { IfErr result (λ fault.
-        ItemRead kind at (S.told source.old) (S.told source.new) (Err fault)) }
-    ensures cause { HasFeedCause (S.fault_count source.old) (S.fault_count source.new) result }
-{
-    match kind {
-        Kind::Units => read_unit(alloc, source, at),
-    }
-}
-
-/// Bytes of the item of a unit.
-pub(crate) fn item_len(kind: Kind, unit: &[u8]) -> u64
-    requires { length unit.now + UNIT_HEAD_LEN ≤ MAX_FEED }
-    ensures { result ≡ length (item kind unit.now) }
-{
-    match kind {
-        Kind::Units => UNIT_HEAD_LEN as u64 + unit.len() as u64,
-    }
-}
-
-/// Reads the length and the bytes of the unit at a place, behind its marker.
-fn read_unit<N: Feed, S: Source<N>>(
-    alloc: Global,
+/// Reads the length and the bytes of the unit at a place, behind its marker, to the front of memory that grows where it
+/// is too short, and answers how many bytes the unit has.
+pub(crate) fn read_unit<N: Feed, S: Source<N>>(
     source: &mut S,
     at: u64,
-) -> Result<Vec<u8>, FeedFault>
+    bytes: &mut Vec<u8>,
+) -> Result<usize, FeedFault>
     requires { at + MARKER_LEN ≤ MAX_FEED }
-    ensures most { IfOk result (λ unit. length unit.items ≤ MAX_UNIT) }
-    ensures within { IfOk result (λ unit. at + UNIT_HEAD_LEN + length unit.items ≤ MAX_FEED) }
+    ensures most { IfOk result (λ n. (n ≤ MAX_UNIT) × (n ≤ vec_len bytes.new)) }
+    ensures within { IfOk result (λ n. at + UNIT_HEAD_LEN + n ≤ MAX_FEED) }
     ensures named { IfErr result (IsItemFault at) }
-    ensures read { IfOk result (λ unit.
-        ItemRead Kind.Units at (S.told source.old) (S.told source.new) (Ok unit.items)) }
-    ensures broken { IfErr result (λ fault.
-        ItemRead Kind.Units at (S.told source.old) (S.told source.new) (Err fault)) }
+    ensures read { IfOk result (λ n. (config : Fields)
+        → ItemRead Kind.Units config at (S.told source.old) (S.told source.new) (Ok (take n bytes.new.items))) }
+    ensures broken { IfErr result (λ fault. (config : Fields)
+        → ItemRead Kind.Units config at (S.told source.old) (S.told source.new) (Err fault)) }
     ensures cause { HasFeedCause (S.fault_count source.old) (S.fault_count source.new) result }
 {
     let len = read_unit_len(source, at)?;
-    read_bytes(alloc, source, at, len)
+    read_bytes(source, at, len, bytes)
 }
 
 /// Reads the bytes of the unit at a place, behind its marker and its length. Memory is taken as the
 /// bytes come, so that a length that claims more than there is costs at most one piece, or as much
 /// again as has come.
 fn read_bytes<N: Feed, S: Source<N>>(
-    alloc: Global,
     source: &mut S,
     at: u64,
     len: u32,
-) -> Result<Vec<u8>, FeedFault>
+    bytes: &mut Vec<u8>,
+) -> Result<usize, FeedFault>
     requires most { len ≤ MAX_UNIT }
     requires within { at + UNIT_HEAD_LEN ≤ MAX_FEED }
-    ensures long { IfOk result (λ unit. length unit.items ≡ len) }
-    ensures within { IfOk result (λ unit. at + UNIT_HEAD_LEN + len ≤ MAX_FEED) }
+    ensures long { IfOk result (λ n. (n ≡ len) × (n ≤ vec_len bytes.new)) }
+    ensures within { IfOk result (λ n. at + UNIT_HEAD_LEN + n ≤ MAX_FEED) }
     ensures named { IfErr result (IsItemFault at) }
-    ensures read { IfOk result (λ unit.
-        BytesRead at len (S.told source.old) (S.told source.new) (Ok unit.items)) }
+    ensures read { IfOk result (λ n.
+        BytesRead at len (S.told source.old) (S.told source.new) (Ok (take n bytes.new.items))) }
     ensures broken { IfErr result (λ fault.
         BytesRead at len (S.told source.old) (S.told source.new) (Err fault)) }
     ensures cause { HasFeedCause (S.fault_count source.old) (S.fault_count source.new) result }
 {
     let len = len as usize;
-    let mut unit = Vec::new(alloc);
-    while unit.len() < len {
-        let had = unit.len();
-        let more = (len - had).min(had.max(FIRST_PIECE));
+    let mut had = 0;
+    while had < len {
+        if !has_room(bytes, had, len) {
+            return Err(FeedFault::Memory);
+        }
+        let more = bytes.len().min(len) - had;
         let place = at + UNIT_HEAD_LEN as u64 + had as u64;
-        let came = read_piece(source, place, &mut unit, more)?;
+        let came = read_more(source, place, bytes, had, more)?;
         if came < more {
             return Err(FeedFault::FeedCut {
                 at: place + came as u64,
             });
         }
+        had += more;
     }
-    Ok(unit)
+    Ok(len)
 }
 
-/// Reads more bytes of a unit, from a place of the feed on, behind those that it has.
-fn read_piece<N: Feed, S: Source<N>>(
+/// Makes room behind the bytes of a unit that came, and answers false where there is no memory for it.
+fn has_room(bytes: &mut Vec<u8>, had: usize, len: usize) -> bool
+    requires fewer { had < len }
+    requires most { len ≤ MAX_UNIT }
+    requires there { had ≤ vec_len bytes.old }
+    ensures room { OnTrue result (had < vec_len bytes.new) }
+    ensures earned { vec_len bytes.new ≤ max (vec_len bytes.old) (had + max had FIRST_PIECE) }
+    ensures kept { OnTrue result (take had bytes.new.items ≡ take had bytes.old.items) }
+{
+    if had < bytes.len() {
+        return true;
+    }
+    let more = (len - had).min(had.max(FIRST_PIECE));
+    bytes.resize(had + more, 0).is_ok()
+}
+
+/// Reads so many bytes of a unit, from a place of the feed on, behind those that came.
+fn read_more<N: Feed, S: Source<N>>(
     source: &mut S,
     at: u64,
-    unit: &mut Vec<u8>,
+    bytes: &mut Vec<u8>,
+    had: usize,
     more: usize,
 ) -> Result<usize, FeedFault>
     requires place { at ≤ MAX_FEED }
-    requires room { vec_len unit.old + more ≤ MAX_UNIT }
-    requires earned { more ≤ max (vec_len unit.old) FIRST_PIECE }
+    requires room { had + more ≤ vec_len bytes.old }
     ensures most { IfOk result (λ n. n ≤ more) }
     ensures within { IfOk result (λ n. at + n ≤ MAX_FEED) }
-    ensures named { IfErr result IsPieceFault }
-    ensures kept { OnOk result (take (vec_len unit.old) unit.new.items ≡ unit.old.items) }
-    ensures taken { TakesPiece at more (vec_len unit.old)
-        (S.told source.old) (S.told source.new) result unit.new.items }
+    ensures named { IfErr result (IsPartFault at more) }
+    ensures kept { (vec_len bytes.new ≡ vec_len bytes.old) × (take had bytes.new.items ≡ take had bytes.old.items) }
+    ensures taken { TakesPart at (S.told source.old) (S.told source.new) result (take more (drop had bytes.new.items)) }
     ensures cause { HasFeedCause (S.fault_count source.old) (S.fault_count source.new) result }
 {
-    let had = unit.len();
-    if unit.resize(had + more, 0).is_err() {
-        return Err(FeedFault::Memory);
-    }
-    read_behind(source, at, unit.as_mut_slice(), had)
+    read_behind(source, at, bytes.as_mut_slice(), had, more)
 }
 
-/// Reads the bytes of a feed from a place on into a buffer, behind those that it has.
+/// Reads so many bytes of a feed from a place on into a buffer, behind those that it has.
 fn read_behind<N: Feed, S: Source<N>>(
     source: &mut S,
     at: u64,
     out: &mut [u8],
     had: usize,
+    more: usize,
 ) -> Result<usize, FeedFault>
     requires place { at ≤ MAX_FEED }
-    requires has { had ≤ length out.old }
-    ensures most { IfOk result (λ n. n ≤ length out.new - had) }
+    requires room { had + more ≤ length out.old }
+    ensures most { IfOk result (λ n. n ≤ more) }
     ensures within { IfOk result (λ n. at + n ≤ MAX_FEED) }
-    ensures named { IfErr result (IsPartFault at (length out.old - had)) }
+    ensures named { IfErr result (IsPartFault at more) }
     ensures kept { take had out.new ≡ take had out.old }
-    ensures taken { TakesPart at (S.told source.old) (S.told source.new) result (drop had out.new) }
+    ensures taken { TakesPart at (S.told source.old) (S.told source.new) result (take more (drop had out.new)) }
     ensures cause { HasFeedCause (S.fault_count source.old) (S.fault_count source.new) result }
 {
-    read_part(source, at, &mut out[had..])
+    read_part(source, at, &mut out[had..had + more])
 }
 
 #[cfg(test)]
@@ -262,7 +247,8 @@ mod tests {
         for (left, longest) in cases {
             let mut source = Zeros { left, longest: 0 };
             let at = 72 + 8 + left as u64;
-            let cut = read_bytes::<Brand, Zeros>(rt.alloc(), &mut source, 72, MAX_UNIT);
+            let mut bytes = Vec::new(rt.alloc());
+            let cut = read_bytes::<Brand, Zeros>(&mut source, 72, MAX_UNIT, &mut bytes);
             assert_eq!(rt; cut, Err(FeedFault::FeedCut { at }), "{left} bytes came");
             assert_eq!(rt; source.longest, longest, "{left} bytes came");
         }

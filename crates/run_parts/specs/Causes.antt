@@ -1,15 +1,19 @@
 -- When each answer may come (own). docs/FORMATS.md, "Statuses".
-use Rattle.std.specs.Prelude.{◌≡◌, ◌≢◌, ◌⊎◌, ℕ, List, Option, Result, Ok, Err}
+use Rattle.std.specs.Prelude.{◌≡◌, ◌≢◌, ◌⊎◌, ◌≤◌, ◌<◌, ℕ, List, Option, Result, Ok, Err, length}
 use Rattle.rec_bytes.specs.Faults.{Rose}
-use Rattle.rec_bytes.specs.Ranges.{IsWithin}
+use Rattle.rec_bytes.specs.Configuration.{Fields}
+use Rattle.rec_bytes.specs.Ranges.{IsInRange, IsWithin}
 use Rattle.rec_bytes.specs.declared.config_fields.TheConstants.{MAX_FRAMES}
 use Rattle.rec_bytes.specs.declared.status.Status.{Status}
+use Rattle.raw_feed.specs.declared.limits.TheConstants.{MAX_UNIT}
 use Rattle.raw_feed.specs.Items.{Ending, Clean, Full, Broken}
 use Rattle.raw_feed.specs.Written.{Writes}
 use Rattle.raw_feed.specs.Refusals.{IsFeedFault}
 use Rattle.run_parts.specs.declared.end.PutFault.{PutFault}
 use Rattle.run_parts.specs.declared.end.PutFault.TheVariants.{Memory, Sink}
-use Rattle.run_parts.specs.Statuses.{answer, ending_answer, sink_answer}
+use Rattle.run_parts.specs.Statuses.{answer, ending_answer, unit_answer, sink_answer}
+use Rattle.run_parts.specs.Units.{RefusesUnit}
+use Rattle.run_parts.specs.declared.unit.UnitFault.{UnitFault}
 
 -- how often each device of a run has failed; the counts of a disk and of a barrier are fields of this record too, once a command has them
 pub record Counts : Type 0 where
@@ -30,6 +34,22 @@ IsEnding items (Broken fault) = IsFeedFault fault
 abbrev pub IsFeedAnswer : Status → Type 0
 IsFeedAnswer status = (items : ℕ) × (ending : Ending) × IsEnding items ending × (status ≡ ending_answer items ending)
 
+-- the answer is the one for a unit that is refused: one of those that a configuration allows, which breaks the rule that the fault names
+pub record IsUnitAnswer (status : Status) : Type 0 where
+  pub config : Fields
+  pub bytes : List ℕ
+  pub unit : ℕ
+  pub fault : UnitFault
+  pub ranges : IsInRange config
+  pub few : unit < config.max_frames
+  pub size : length bytes ≤ MAX_UNIT
+  pub refused : RefusesUnit config bytes fault
+  pub answered : status ≡ unit_answer unit fault
+
+-- the answer is one for how a feed ends, or for a unit of it
+abbrev pub IsReadAnswer : Status → Type 0
+IsReadAnswer status = IsFeedAnswer status ⊎ IsUnitAnswer status
+
 -- A count of the source's faults stays, unless the answer says that it rose: by 5, or by 7 where the sink failed in the
 -- tail that is written behind a fault of the source.
 abbrev pub SourceStays : ℕ → ℕ → Status → Type 0
@@ -42,9 +62,9 @@ pub record HasDeviceCauses (before now : Counts) (status : Status) : Type 0 wher
   pub sink : status.code ≡ 7 → (status ≡ sink_answer now.sink) × Rose before.sink now.sink
   pub sink_kept : status.code ≢ 7 → now.sink ≡ before.sink
 
--- the same of a command that reads a feed, whose answer is one for an ending of a feed or for its sink
+-- the same of a command that reads a feed, whose answer is one for an ending of a feed, for a unit of it or for its sink
 pub record HasFeedCauses (before now : Counts) (status : Status) : Type 0 where
-  pub answered : IsFeedAnswer status ⊎ (status ≡ sink_answer now.sink)
+  pub answered : IsReadAnswer status ⊎ (status ≡ sink_answer now.sink)
   pub devices : HasDeviceCauses before now status
 
 -- a piece was written, or a front of it where the sink failed; nothing where memory was wanted before it

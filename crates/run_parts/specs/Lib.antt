@@ -1,4 +1,5 @@
 pub mod Causes
 pub mod Files
 pub mod Statuses
+pub mod Units
 pub mod inner

@@ -1,9 +1,10 @@
 //! How a command that reads a feed ends.
 
 ghost use Rattle.std.specs.Prelude.{◌≡◌};
-ghost use Rattle.run_parts.specs.Statuses.{end_answer};
+ghost use Rattle.run_parts.specs.Statuses.{end_answer, feed_end_answer};
 
 use crate::status::{MEMORY, feed_status, refusal, sink_status};
+use crate::unit::{UnitFault, unit_status};
 use raw_feed::{FeedFault, Sink};
 use rec_bytes::{Failed, Memory, Status};
 use thiserror::Error;
@@ -17,6 +18,15 @@ pub enum FeedEnd {
     Full { items: u64 },
     /// It can't be read on.
     Broken(FeedFault),
+}
+
+/// How far a command has read its feed.
+#[derive(Clone, Copy, Debug, PartialEq, Eq)]
+pub enum CommandEnd {
+    /// To its end.
+    Read(FeedEnd),
+    /// Up to the unit of this number, which is refused.
+    Refused { unit: u64, fault: UnitFault },
 }
 
 /// Why a command ends before it has written all.
@@ -46,16 +56,26 @@ impl From<Failed> for PutFault {
     }
 }
 
-/// The answer of a command that wrote all behind its feed's end, or ended before.
-pub fn end_status<W: Sink>(ended: Result<FeedEnd, PutFault>, out: &W) -> Status
+/// The answer of a command that wrote all behind its feed's end or a refused unit, or ended before.
+pub fn end_status<W: Sink>(ended: Result<CommandEnd, PutFault>, out: &W) -> Status
     ensures { result ≡ end_answer (W.fault_count out.now) ended }
 {
     match ended {
-        Ok(FeedEnd::Clean) => Status::DONE,
-        Ok(FeedEnd::Full { items }) => refusal(10, 95, items, 0),
-        Ok(FeedEnd::Broken(fault)) => feed_status(fault),
+        Ok(CommandEnd::Read(end)) => feed_end_status(end),
+        Ok(CommandEnd::Refused { unit, fault }) => unit_status(unit, fault),
         Err(PutFault::Memory) => MEMORY,
         Err(PutFault::Sink) => sink_status(out),
+    }
+}
+
+/// The answer of a command that wrote all behind its feed's end.
+fn feed_end_status(end: FeedEnd) -> Status
+    ensures { result ≡ feed_end_answer end }
+{
+    match end {
+        FeedEnd::Clean => Status::DONE,
+        FeedEnd::Full { items } => refusal(10, 95, items, 0),
+        FeedEnd::Broken(fault) => feed_status(fault),
     }
 }
 
@@ -78,7 +98,7 @@ mod tests {
         for _ in 0..3 {
             assert_eq!(rt; put_all(&mut sink, b"unit"), Err(Failed));
         }
-        let faults: [(FeedFault, (u8, u16, u64, u64)); 7] = [
+        let faults: [(FeedFault, (u8, u16, u64, u64)); 8] = [
             (FeedFault::Memory, (1, 1, 0, 0)),
             (FeedFault::FeedHead { at: 9 }, (3, 110, 9, 0)),
             (FeedFault::Marker { at: 72 }, (3, 111, 72, 0)),
@@ -88,16 +108,26 @@ mod tests {
                 FeedFault::TooLong { at: 1 << 44 },
                 (3, 114, 17_592_186_044_416, 0),
             ),
+            (FeedFault::Sample { at: 76 }, (3, 115, 76, 0)),
             (FeedFault::UnitLong { at: 76 }, (3, 116, 76, 0)),
         ];
         for (fault, want) in faults {
             assert_eq!(rt; numbers(feed_status(fault)), want, "{fault:?}");
-            let ended = end_status(Ok(FeedEnd::Broken(fault)), &sink);
+            let ended = end_status(Ok(CommandEnd::Read(FeedEnd::Broken(fault))), &sink);
             assert_eq!(rt; numbers(ended), want, "ended by {fault:?}");
         }
-        let ends: [(Result<FeedEnd, PutFault>, (u8, u16, u64, u64)); 4] = [
-            (Ok(FeedEnd::Clean), (0, 0, 0, 0)),
-            (Ok(FeedEnd::Full { items: 7 }), (10, 95, 7, 0)),
+        let differs = UnitFault::Differs { at: 18 };
+        let refused = CommandEnd::Refused {
+            unit: 5,
+            fault: differs,
+        };
+        let ends: [(Result<CommandEnd, PutFault>, (u8, u16, u64, u64)); 5] = [
+            (Ok(CommandEnd::Read(FeedEnd::Clean)), (0, 0, 0, 0)),
+            (
+                Ok(CommandEnd::Read(FeedEnd::Full { items: 7 })),
+                (10, 95, 7, 0),
+            ),
+            (Ok(refused), (8, 42, 18, 5)),
             (Err(PutFault::Memory), (1, 1, 0, 0)),
             (Err(PutFault::Sink), (7, 117, 3, 0)),
         ];

@@ -52,6 +52,7 @@ pub fn feed_status(fault: FeedFault) -> Status
         FeedFault::FeedCut { at } => refusal(3, 112, at, 0),
         FeedFault::SourceFault { at } => refusal(5, 113, at, 0),
         FeedFault::TooLong { at } => refusal(3, 114, at, 0),
+        FeedFault::Sample { at } => refusal(3, 115, at, 0),
         FeedFault::UnitLong { at } => refusal(3, 116, at, 0),
     }
 }

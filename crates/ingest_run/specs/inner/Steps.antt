@@ -1,6 +1,7 @@
 -- The steps of `wrap` (own). Private functions alone cite these.
 use Rattle.std.specs.Prelude.{◌≡◌, ◌≢◌, ◌+◌, ◌<◌, ◌≤◌, ℕ, List, [], ◌∷◌, ◌++◌, length, Option, None, Result, Ok, Err}
 use Rattle.rec_bytes.specs.Faults.{Rose}
+use Rattle.rec_bytes.specs.Ranges.{IsInRange}
 use Rattle.rec_bytes.specs.declared.status.Status.{Status}
 use Rattle.rec_bytes.specs.declared.status.Memory.{Memory}
 use Rattle.raw_feed.specs.declared.fault.FeedFault.TheVariants.{Memory as NoMemory}
@@ -23,15 +24,15 @@ ending_of EndClean = Clean
 ending_of (EndFull items) = Full
 ending_of (EndBroken fault) = Broken fault
 
--- this holds of the next unit, where there is one
-abbrev pub IfItem : Result Next Memory → (List ℕ → Type 0) → Type 0
-IfItem (Ok (Item unit)) P = P unit.items
-IfItem (Ok (End end)) P = Unit {0}
-IfItem (Err memory) P = Unit {0}
+-- this holds where there is a next unit
+abbrev pub OnItem : Result Next Memory → Type 0 → Type 0
+OnItem (Ok Item) P = P
+OnItem (Ok (End end)) P = Unit {0}
+OnItem (Err memory) P = Unit {0}
 
 -- this holds of the feed's end and of its answer, where there is no next unit
 abbrev pub IfEnd : Result Next Memory → (Status → Ending → Type 0) → Type 0
-IfEnd (Ok (Item unit)) P = Unit {0}
+IfEnd (Ok Item) P = Unit {0}
 IfEnd (Ok (End end)) P = P (feed_end_answer end) (ending_of end)
 IfEnd (Err memory) P = P memory_answer (Broken NoMemory)
 
@@ -41,6 +42,7 @@ StaysSilent told now = told ≡ None → now ≡ None
 
 -- one unit more was read, which there was room for
 pub record ReadsUnit (old new : Reading) (told now : Option Told) (unit : List ℕ) : Type 0 where
+  pub ranges : IsInRange old.config
   pub room : old.count < old.config.max_frames
   pub size : length unit ≤ MAX_UNIT
   pub stage : new.stage ≡ Open

@@ -1,0 +1,11 @@
+pub mod ExactLemmas
+pub mod FrontLemmas
+pub mod RoomLemmas
+pub mod RowLemmas
+pub mod RuleLemmas
+pub mod SpanLemmas
+pub mod TableBytesLemmas
+pub mod TableLemmas
+pub mod WrittenFrameLemmas
+pub mod WrittenHeadLemmas
+pub mod WrittenPictureLemmas
