@@ -22,8 +22,12 @@ pub struct BitWriter<'a> {
     // the low `count` bits are put and not stored yet
     acc: u64,
     count: u32,
+    // so many bits may wait with no test of the room
+    most: u32,
     ghost within: { 8 * at + count ≤ 8 * length out.now },
     ghost pending: { count < 32 },
+    ghost free: { 8 * at + most ≤ 8 * length out.now },
+    ghost few: { most < 32 },
 }
 
 impl<'a> BitWriter<'a> {
@@ -35,11 +39,13 @@ impl<'a> BitWriter<'a> {
         ensures lent { lent result ≡ out.old }
         ensures empty { bits_put result ≡ [] }
     {
+        let most = most_waiting(out.len());
         BitWriter {
             out,
             at: 0,
             acc: 0,
             count: 0,
+            most,
         }
     }
 
@@ -55,6 +61,11 @@ impl<'a> BitWriter<'a> {
         ensures unchanged { OnErr result (self.new ≡ self.old) }
     {
         let count = self.count + u32::from(n);
+        if count <= self.most {
+            self.acc = self.acc << n | u64::from(value);
+            self.count = count;
+            return Ok(());
+        }
         let free = self.out.len() - self.at;
         if overfills(free, count) {
             return Err(Full {
@@ -74,6 +85,7 @@ impl<'a> BitWriter<'a> {
                 (acc >> (count - 32) & 0xffff_ffff) as u32,
             );
             self.at += 4;
+            self.most = most_waiting(free - 4);
         }
         Ok(())
     }
@@ -87,6 +99,7 @@ impl<'a> BitWriter<'a> {
             at,
             acc,
             count,
+            ..
         } = self;
         let last = (count as usize + 7) / 8;
         store(out, at, last, (acc << (32 - count) & 0xffff_ffff) as u32);
@@ -101,6 +114,15 @@ fn overfills(free: usize, count: u32) -> bool
     ensures { IsTrue result ↔ (8 * free < count) }
 {
     free < 8 && free < (count as usize + 7) / 8
+}
+
+// How many bits may wait before so many free bytes: what they have room for, and less than a word.
+#[inline(always)]
+fn most_waiting(free: usize) -> u32
+    ensures room { result ≤ 8 * free }
+    ensures few { result < 32 }
+{
+    if free >= 4 { 31 } else { 8 * free as u32 }
 }
 
 // Stores the first `count` bytes of a word, the highest first.

@@ -2,5 +2,4 @@ pub mod ScanLemmas
 pub mod LevelLemmas
 pub mod ReciprocalLemmas
 pub mod ThresholdLemmas
-pub mod ChangeLemmas
 pub mod EightLemmas

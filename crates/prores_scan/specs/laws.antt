@@ -1,3 +1,4 @@
 pub mod LevelLaws
 pub mod ScaleLaws
 pub mod HalfStepLaws
+pub mod ChangeLaws

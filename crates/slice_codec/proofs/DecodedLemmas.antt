@@ -1,5 +1,6 @@
 -- How a slice is read part by part.
-use Rattle.std.proofs.Common.{◌≡◌, ℕ, ℤ, List, length, take, arith, ap, ◌∙◌}
+use Rattle.std.proofs.Common.{◌≡◌, ◌-◌, ℕ, ℤ, List, [], ◌++◌, length, take, drop, arith, ap, ◌∙◌}
+use Rattle.std.proofs.lemmas.List.{append-nil, length-drop, take_at, drop_at, drop_all, take_rest}
 use borrow.Rule.Slice.PartMut.{put_mid}
 use Rattle.std.proofs.lemmas.Slice.{take-put_mid}
 use Rattle.bit_io.specs.Bits.{bits_of}
@@ -17,6 +18,18 @@ use Rattle.slice_codec.specs.Faults.{Reaches, PassesRange}
 -- levels that were read into the front of a longer list are that front
 pub front_is : (n : ℕ) (old levels : List ℤ) → length levels ≡ n → take n (put_mid 0 n old levels) ≡ levels
 front_is n old levels long = take-put_mid 0 n old levels n (omega (arith, long)) (omega arith)
+
+-- what stands behind the front of a list, once that is written
+pub two_rest : (n : ℕ) (front old : List ℤ) → length front ≡ n → take (length (front ++ drop n old) - n) (drop n (front ++ drop n old)) ≡ drop n old
+two_rest n front old long = take_rest (front ++ drop n old) n ∙ drop_at front (drop n old) n long
+
+-- a list whose front is written and then the rest
+pub two_parts : (n : ℕ) (front back old : List ℤ) → length front ≡ n → put_mid n (length (front ++ drop n old) - n) (front ++ drop n old) back ≡ front ++ back
+two_parts n front back old long =
+    let whole : List ℤ = front ++ drop n old in
+    let none : drop (length whole - n) (drop n whole) ≡ [] = drop_all (length whole - n) (drop n whole) (omega (arith, length-drop n whole)) in
+    ap (λ (zs : List ℤ). zs ++ (back ++ drop (length whole - n) (drop n whole))) (take_at front (drop n old) n long)
+    ∙ ap (λ (zs : List ℤ). front ++ zs) (ap (λ (zs : List ℤ). back ++ zs) none ∙ append-nil back)
 
 -- a part is read from its bits, and its blocks are given back
 pub decoded_part : (setup : Setup) (count n scale : ℕ) (bytes : List ℕ) (plane : Plane) (weights : List ℕ) (front levels : List ℤ) (blocks rebuilt : List (List ℕ))

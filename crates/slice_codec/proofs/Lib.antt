@@ -5,3 +5,4 @@ pub mod PartsLemmas
 pub mod WritingLemmas
 pub mod ChoiceLemmas
 pub mod FlatLemmas
+pub mod BoundLemmas

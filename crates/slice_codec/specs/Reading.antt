@@ -33,3 +33,8 @@ CodedSlicesMean = (fields : Fields) (setup : Setup) (count : ℕ) (source sample
     → IsSetup fields setup → 1 ≤ fields.qmin → fields.qmax ≤ 224 → AreSliceSamples count source
     → IsCodedSlice fields count source bytes → IsRebuiltSlice fields count source samples
     → MeansSlice setup count bytes samples
+
+-- bytes that are no slice are refused by one fault
+abbrev pub RefusalsAreOne : Type 0
+RefusalsAreOne = (setup : Setup) (count : ℕ) (bytes : List ℕ) (a b : SliceFault)
+    → Refuses setup count bytes a → Refuses setup count bytes b → a ≡ b

@@ -1,2 +1,3 @@
 pub mod Weighed
 pub mod Written
+pub mod Bounded

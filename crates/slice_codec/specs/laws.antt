@@ -4,3 +4,6 @@ pub mod RoundLaws
 pub mod SetupLaws
 pub mod OneSlice
 pub mod ThereLaws
+pub mod LengthLaws
+pub mod CutLaws
+pub mod OneRefusalLaws

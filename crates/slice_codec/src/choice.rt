@@ -5,6 +5,7 @@ ghost use Rattle.slice_codec.specs.Setups.{Setup};
 ghost use Rattle.slice_codec.specs.inner.Weighed.{AreHalves, IsWeighedSlice, most_bits};
 ghost use Rattle.slice_codec.specs.inner.Written.{IsChosenSlice};
 
+use crate::search::first_possible;
 use crate::writing::write_slice;
 use prores_codes::Pairs;
 
@@ -19,13 +20,15 @@ pub struct Rule {
     pub room: usize,
 }
 
-/// Writes the slice of half steps at the least index that fits, or at the last, and answers its bytes.
+/// Writes the slice of half steps at the least index that fits, or at the last, and answers its bytes. The search for that
+/// index begins near `hint`.
 pub fn write_chosen(
     tables: &Pairs,
     y: &[u16],
     cb: &[u16],
     cr: &[u16],
     rule: Rule,
+    hint: u8,
     numbers: &mut [u16; 2048],
     out: &mut [u8],
 ) -> usize
@@ -41,7 +44,8 @@ pub fn write_chosen(
         → IsChosenSlice setup count samples rule.room rule.first rule.last (take result out.new) }
     ensures few { 8 * result ≤ 48 + most_bits y.now + most_bits cb.now + most_bits cr.now }
 {
-    for index in rule.first..rule.last {
+    let possible = first_possible(y, cb, cr, rule, hint);
+    for index in possible..rule.last {
         let lent = &mut out[..rule.room];
         match write_slice(tables, y, cb, cr, index, numbers, lent) {
             Some(used) => return used,

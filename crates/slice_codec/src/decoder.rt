@@ -18,10 +18,12 @@ ghost use Rattle.slice_codec.specs.Faults.{Reaches, BreaksFirst, Refuses, number
 use crate::fault::SliceFault;
 use crate::head::{check_head, part_of};
 use crate::setup::SliceSetup;
+use crate::short::decode_short;
 use picture_plane::{Plane, SliceSamples};
+use prores_codes::Heads;
 use prores_scan::{CoefficientRange, Scan, scale};
 use slice_levels::{Lanes, rebuild};
-use slice_parts::{PartFault, read_part};
+use slice_parts::{PartFault, read_part_with};
 
 /// Reads slices of one setup: the room that this takes, about 40 thousand bytes, is made once.
 #[derive(Drop)]
@@ -33,11 +35,13 @@ pub struct SliceDecoder {
 
 /// Room for the numbers of one part.
 #[derive(Drop)]
-struct Room {
+pub struct Room {
+    /// Levels of 16 bits.
+    pub short: [i16; 2048],
     levels: [i64; 2048],
     products: [i32; 2048],
-    lanes: Lanes,
-    blocks: [[u16; 64]; 32],
+    pub lanes: Lanes,
+    pub blocks: [[u16; 64]; 32],
 }
 
 impl SliceDecoder {
@@ -48,6 +52,7 @@ impl SliceDecoder {
         SliceDecoder {
             setup: *setup,
             room: Room {
+                short: [0; 2048],
                 levels: [0; 2048],
                 products: [0; 2048],
                 lanes: Lanes::new(),
@@ -56,9 +61,11 @@ impl SliceDecoder {
         }
     }
 
-    /// Reads the samples of a slice of so many macroblocks, 1 to 8. After a refusal `out` holds any samples.
+    /// Reads the samples of a slice of so many macroblocks, 1 to 8. `tables` are those of `prores_codes`, made once. After
+    /// a refusal `out` holds any samples.
     pub fn decode(
         &mut self,
+        tables: &Heads,
         bytes: &[u8],
         count: u8,
         out: &mut SliceSamples,
@@ -70,14 +77,15 @@ impl SliceDecoder {
 
         ensures refused { IfErr result (Refuses (as_setup self.old.setup) count bytes.now) }
     {
-        match decode_parts(&self.setup, bytes, count, &mut self.room, out) {
+        match decode_parts(tables, &self.setup, bytes, count, &mut self.room, out) {
             Ok(()) => Ok(()),
             Err(fault) => Err(fault),
         }
     }
 }
 
-/// Reads the samples of a slice of so many macroblocks, 1 to 8. After a refusal `out` holds any samples.
+/// Reads the samples of a slice of so many macroblocks, 1 to 8. It makes tables at each call: for many slices keep a
+/// `SliceDecoder`. After a refusal `out` holds any samples.
 pub fn decode_slice(
     bytes: &[u8],
     setup: &SliceSetup,
@@ -90,12 +98,14 @@ pub fn decode_slice(
 
     ensures refused { IfErr result (Refuses (as_setup setup.now) count bytes.now) }
 {
+    let tables = Heads::new();
     let mut decoder = SliceDecoder::new(setup);
-    decoder.decode(bytes, count, out)
+    decoder.decode(&tables, bytes, count, out)
 }
 
 /// Reads the header and then the parts.
 fn decode_parts(
+    tables: &Heads,
     setup: &SliceSetup,
     bytes: &[u8],
     count: u8,
@@ -108,14 +118,40 @@ fn decode_parts(
     ensures refused { IfErr result (Refuses (as_setup setup.now) count bytes.now) }
 {
     check_head(bytes)?;
-    decode_part(setup, bytes, Plane::Y, count, room, out)?;
-    decode_part(setup, bytes, Plane::Cb, count, room, out)?;
-    decode_part(setup, bytes, Plane::Cr, count, room, out)?;
+    decode_part(tables, setup, bytes, Plane::Y, count, room, out)?;
+    decode_part(tables, setup, bytes, Plane::Cb, count, room, out)?;
+    decode_part(tables, setup, bytes, Plane::Cr, count, room, out)?;
     Ok(())
 }
 
-/// Reads a part behind sound ones.
+/// Reads a part behind sound ones: in 16 bits where levels and products have no more.
 fn decode_part(
+    tables: &Heads,
+    setup: &SliceSetup,
+    bytes: &[u8],
+    plane: Plane,
+    count: u8,
+    room: &mut Room,
+    out: &mut SliceSamples,
+) -> Result<(), SliceFault>
+    requires count { (1 ≤ count) × (count ≤ 8) }
+    requires reached { Reaches (as_setup setup.now) count bytes.now plane }
+    ensures counted { OnOk result (length (blocks_in out.new plane count) ≡ blocks_of plane count) }
+    ensures means { OnOk result (MeansPart (as_setup setup.now) (index_of bytes.now) plane (part_bytes bytes.now plane) (blocks_in out.new plane count)) }
+    ensures others { (other : Plane) → other ≢ plane → blocks_in out.new other count ≡ blocks_in out.old other count }
+
+    ensures refused { IfErr result (Refuses (as_setup setup.now) count bytes.now) }
+{
+    if decode_short(tables, setup, bytes, plane, count, room, out) {
+        return Ok(());
+    }
+    decode_long(tables, setup, bytes, plane, count, room, out)
+}
+
+/// Reads a part behind sound ones, whatever its levels and products are, and names the first fault.
+#[inline(never)]
+fn decode_long(
+    tables: &Heads,
     setup: &SliceSetup,
     bytes: &[u8],
     plane: Plane,
@@ -132,7 +168,7 @@ fn decode_part(
     ensures refused { IfErr result (Refuses (as_setup setup.now) count bytes.now) }
 {
     let blocks = block_count(plane, count);
-    read_levels(bytes, plane, count, &mut room.levels[..64 * blocks])?;
+    read_levels(tables, bytes, plane, count, &mut room.levels[..64 * blocks])?;
     match rebuild_blocks(
         &room.levels,
         blocks,
@@ -186,7 +222,13 @@ fn rebuild_blocks(
 }
 
 /// Reads the levels of a part, whatever they were before.
-fn read_levels(bytes: &[u8], plane: Plane, count: u8, levels: &mut [i64]) -> Result<(), SliceFault>
+fn read_levels(
+    tables: &Heads,
+    bytes: &[u8],
+    plane: Plane,
+    count: u8,
+    levels: &mut [i64],
+) -> Result<(), SliceFault>
     requires count { (1 ≤ count) × (count ≤ 8) }
     requires head { HasHead bytes.now }
     requires long { length levels.old ≡ 64 * blocks_of plane count }
@@ -196,7 +238,12 @@ fn read_levels(bytes: &[u8], plane: Plane, count: u8, levels: &mut [i64]) -> Res
     ensures refused { (setup : Setup) → Reaches setup count bytes.now plane → IfErr result (Refuses setup count bytes.now) }
 {
     levels.fill(0);
-    match read_part(part_of(bytes, plane), block_count(plane, count), levels) {
+    match read_part_with(
+        tables,
+        part_of(bytes, plane),
+        block_count(plane, count),
+        levels,
+    ) {
         Ok(()) => Ok(()),
         Err(fault) => Err(part_fault(plane, fault)),
     }
@@ -229,7 +276,7 @@ fn range_fault(fault: CoefficientRange) -> SliceFault
 }
 
 /// The weights of a plane.
-fn weights_of(setup: &SliceSetup, plane: Plane) -> &[u8; 64]
+pub fn weights_of(setup: &SliceSetup, plane: Plane) -> &[u8; 64]
     ensures { result.now ≡ weights_of (as_setup setup.now) plane }
 {
     match plane {
@@ -240,7 +287,7 @@ fn weights_of(setup: &SliceSetup, plane: Plane) -> &[u8; 64]
 }
 
 /// The scale of an index.
-fn scale_at(index: u8) -> u16
+pub fn scale_at(index: u8) -> u16
     requires { (1 ≤ index) × (index ≤ 224) }
     ensures scale { result ≡ scale_of index }
     ensures small { result ≤ 512 }
@@ -252,7 +299,7 @@ fn scale_at(index: u8) -> u16
 }
 
 /// The blocks of a plane of so many macroblocks.
-fn block_count(plane: Plane, count: u8) -> usize
+pub fn block_count(plane: Plane, count: u8) -> usize
     requires { (1 ≤ count) × (count ≤ 8) }
     ensures value { result ≡ blocks_of plane count }
     ensures some { 1 ≤ result }

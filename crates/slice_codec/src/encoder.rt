@@ -20,6 +20,7 @@ struct Scratch {
     cb: [u16; 1024],
     cr: [u16; 1024],
     numbers: [u16; 2048],
+    hint: u8,
 }
 
 /// What coding slices by a configuration takes, made once for many of them. It has some 20 KB, and takes no memory.
@@ -43,6 +44,7 @@ impl SliceEncoder {
                 cb: [0; 1024],
                 cr: [0; 1024],
                 numbers: [0; 2048],
+                hint: 0,
             },
         }
     }
@@ -112,7 +114,10 @@ fn code_slice(
     let y = &scratch.y[..luma];
     let cb = &scratch.cb[..chroma];
     let cr = &scratch.cr[..chroma];
-    write_chosen(tables, y, cb, cr, rule, &mut scratch.numbers, out)
+    let hint = scratch.hint;
+    let used = write_chosen(tables, y, cb, cr, rule, hint, &mut scratch.numbers, out);
+    scratch.hint = out[1];
+    used
 }
 
 /// What a configuration says of the indices of slices of so many macroblocks.

@@ -21,7 +21,9 @@ mod parts;
 mod read_laws;
 #[cfg(test)]
 mod reading_tests;
+mod search;
 mod setup;
+mod short;
 #[cfg(test)]
 mod tests;
 mod weighing;
@@ -31,5 +33,5 @@ pub use coding::Coding;
 pub use decoder::{SliceDecoder, decode_slice};
 pub use encoder::{SliceEncoder, encode_slice};
 pub use fault::SliceFault;
-pub use read_laws::{coded_slices_mean, refused_means_nothing, slices_mean_one};
+pub use read_laws::{coded_slices_mean, refusals_are_one, refused_means_nothing, slices_mean_one};
 pub use setup::{SliceSetup, scan_of};

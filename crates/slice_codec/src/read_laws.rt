@@ -1,6 +1,6 @@
 //! Laws of what a slice's bytes mean. The functions do nothing when they run.
 
-ghost use Rattle.slice_codec.specs.Reading.{CodedSlicesMean, RefusedMeansNothing, SlicesMeanOne};
+ghost use Rattle.slice_codec.specs.Reading.{CodedSlicesMean, RefusalsAreOne, RefusedMeansNothing, SlicesMeanOne};
 
 /// Bytes mean one list of samples.
 pub fn slices_mean_one()
@@ -10,6 +10,11 @@ pub fn slices_mean_one()
 /// Bytes that are refused mean no samples.
 pub fn refused_means_nothing()
     ensures { RefusedMeansNothing }
+{}
+
+/// Bytes that are refused are refused by one fault.
+pub fn refusals_are_one()
+    ensures { RefusalsAreOne }
 {}
 
 /// What is written is read back as the samples that its levels give.

@@ -2,6 +2,7 @@ ghost use Rattle.std.specs.Prelude.{◌≤◌};
 
 use crate::{SliceDecoder, SliceFault, SliceSetup, decode_slice};
 use picture_plane::{Plane, SliceSamples};
+use prores_codes::Heads;
 use prores_scan::Scan;
 
 // One macroblock of 512, of 4 and of 1019, and two of 512, as another program wrote them.
@@ -115,11 +116,12 @@ fn slices_are_read_and_others_refused(rt: HostRuntime) {
 
 #[test]
 fn one_decoder_reads_slice_after_slice(rt: HostRuntime) {
+    let tables = Heads::new();
     let mut decoder = SliceDecoder::new(&setup(4));
     let mut samples = SliceSamples::new();
-    assert!(rt; decoder.decode(&PAST, 1, &mut samples).is_err());
-    assert_eq!(rt; decoder.decode(&DARK, 1, &mut samples), Ok(()));
+    assert!(rt; decoder.decode(&tables, &PAST, 1, &mut samples).is_err());
+    assert_eq!(rt; decoder.decode(&tables, &DARK, 1, &mut samples), Ok(()));
     assert_eq!(rt; value_of(&samples, 1), Some(4));
-    assert_eq!(rt; decoder.decode(&GREY, 1, &mut samples), Ok(()));
+    assert_eq!(rt; decoder.decode(&tables, &GREY, 1, &mut samples), Ok(()));
     assert_eq!(rt; value_of(&samples, 1), Some(512));
 }

@@ -45,7 +45,7 @@ pub fn write_slice(
 }
 
 /// The reciprocal of twice the scale of an index.
-fn double_scale(index: u8) -> Reciprocal
+pub(crate) fn double_scale(index: u8) -> Reciprocal
     requires { (1 ≤ index) × (index ≤ 224) }
     ensures { result.divisor ≡ 2 * scale_of index }
 {

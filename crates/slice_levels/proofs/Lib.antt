@@ -3,3 +3,4 @@ pub mod SampleLemmas
 pub mod WeighedLemmas
 pub mod CoefficientLemmas
 pub mod LiteralLemmas
+pub mod ShortLemmas

@@ -79,8 +79,9 @@ fn put_weighed(
         → slice_index out.new (entry_of count k b) ≡ slice_index out.old (entry_of count k b) }
 {
     let filled = (count - first).min(8);
+    let scan = weighing.scan;
     for k in 0..64 {
-        let p = place(weighing.scan, k) as usize;
+        let p = place(scan, k) as usize;
         let to = k as usize * count + first;
         put_place(sizes, negative, p, weighing.reciprocal(p), filled, out, to);
     }

@@ -8,6 +8,7 @@ ghost use Rattle.slice_levels.specs.Interleaved.{entry_of};
 ghost use Rattle.whole_transform.specs.Sums.{at};
 
 use prores_scan::{Scan, place};
+use std::simd::prelude::*;
 
 /// Room for the numbers of eight blocks side by side, lent to each call that works on them. What it holds between calls
 /// matters to none.
@@ -127,14 +128,52 @@ fn short_at(products: &[i32], n: usize) -> i16
     products[n] as i16
 }
 
-/// Copies the samples of one of eight blocks.
+/// Copies the samples of one of eight blocks, row by row.
 #[inline(always)]
 pub fn take_block(sums: &[i32; 512], lane: usize, out: &mut [u16; 64])
     requires lane { lane < 8 }
     requires range { (k : ℕ) → k < 512 → (pos 4 ≤ℤ at sums.now k) × (at sums.now k ≤ℤ pos 1019) }
     ensures { (p : ℕ) → p < 64 → at sums.now (8 * p + lane) ≡ pos (slice_index out.new p) }
 {
-    for p in 0..64 {
-        out[p] = sums[8 * p + lane] as u16;
+    for r in 0..8 {
+        put_samples(row_of(sums, 64 * r + lane), out, r);
     }
+}
+
+/// Eight samples, each eight places behind the one before. As a vector they are stored at once.
+#[inline(always)]
+fn row_of(sums: &[i32; 512], first: usize) -> u16x8
+    requires within { first + 56 < 512 }
+    requires range { (k : ℕ) → k < 512 → (pos 4 ≤ℤ at sums.now k) × (at sums.now k ≤ℤ pos 1019) }
+    ensures { (x : ℕ) → x < 8 → at sums.now (first + 8 * x) ≡ pos (slice_index result x) }
+{
+    u16x8::from_array([
+        sample_at(sums, first),
+        sample_at(sums, first + 8),
+        sample_at(sums, first + 16),
+        sample_at(sums, first + 24),
+        sample_at(sums, first + 32),
+        sample_at(sums, first + 40),
+        sample_at(sums, first + 48),
+        sample_at(sums, first + 56),
+    ])
+}
+
+#[inline(always)]
+fn sample_at(sums: &[i32; 512], n: usize) -> u16
+    requires within { n < 512 }
+    requires range { (k : ℕ) → k < 512 → (pos 4 ≤ℤ at sums.now k) × (at sums.now k ≤ℤ pos 1019) }
+    ensures { at sums.now n ≡ pos result }
+{
+    sums[n] as u16
+}
+
+/// Puts a row of a block.
+#[inline(always)]
+fn put_samples(row: u16x8, out: &mut [u16; 64], r: usize)
+    requires { r < 8 }
+    ensures put { (x : ℕ) → x < 8 → slice_index out.new (8 * r + x) ≡ slice_index row x }
+    ensures before { (p : ℕ) → p < 8 * r → slice_index out.new p ≡ slice_index out.old p }
+{
+    row.copy_to_slice(&mut out[8 * r..8 * r + 8]);
 }

@@ -4,7 +4,8 @@
 //! The crates above rest on `put_half_steps` (`AreHalfStepsOf` of `specs/Coefficients.antt`): half steps are the
 //! coefficients as far as any scale needs them, and `prores_scan::levels_at` gives the levels at a scale from them
 //! (`AreLevelsOf`, by the law `levels_of_half_steps` of `specs/laws/LevelLaws.antt`). Back, they rest on `rebuild`
-//! (`AreRebuilt` of `specs/Rebuilt.antt`), or on its two halves `put_products` and `put_samples`.
+//! (`AreRebuilt` of `specs/Rebuilt.antt`), on its two halves `put_products` and `put_samples`, or on `rebuild_short`,
+//! which is faster, and leaves to `rebuild` what has more than 16 bits.
 //!
 //! Terms: an entry is a place of the interleaved list, a lane one of eight blocks that are worked on side by side.
 //!
@@ -18,6 +19,8 @@ mod lanes;
 mod products;
 mod rebuilding;
 mod samples;
+mod short_products;
+mod short_rebuilding;
 #[cfg(test)]
 mod tests;
 mod weighing;
@@ -27,4 +30,5 @@ pub use lanes::Lanes;
 pub use products::put_products;
 pub use rebuilding::rebuild;
 pub use samples::put_samples;
+pub use short_rebuilding::rebuild_short;
 pub use weighing::Weighing;

@@ -1,6 +1,6 @@
 //! Blocks of one value, whose one level was worked out by hand, and levels that are refused.
 
-use crate::{Lanes, Weighing, put_half_steps, rebuild};
+use crate::{Lanes, Weighing, put_half_steps, rebuild, rebuild_short};
 use prores_scan::{CoefficientRange, Reciprocal, Scan, levels_at, weights};
 
 // Samples 4, 512, 1019, 1023 by blocks: 64 * 5793^2 * (sample - 512) over 2^25 * 4, the sign as the last bit.
@@ -43,6 +43,29 @@ fn one_level_gives_a_block_of_one_value(rt: HostRuntime) {
     );
     assert_eq!(rt; found, Ok(()));
     assert_eq!(rt; out, [[4; 64], [512; 64], [1019; 64], [1019; 64]]);
+}
+
+#[test]
+fn levels_of_16_bits_give_the_same_blocks(rt: HostRuntime) {
+    let mut levels = [0i16; 640];
+    levels[0] = -4065;
+    levels[2] = 4057;
+    levels[9] = 4089;
+    let scan = Scan::Progressive;
+    let mut lanes = Lanes::new();
+    let mut out = [[7u16; 64]; 10];
+    assert!(rt; rebuild_short(&levels, scan, &[4; 64], 1, &mut lanes, &mut out));
+    let mut want = [[512u16; 64]; 10];
+    want[0] = [4; 64];
+    want[2] = [1019; 64];
+    want[9] = [1019; 64];
+    assert_eq!(rt; out, want);
+    // 2^15 as a product, of the first eight blocks and of the last two
+    levels[9] = 8192;
+    assert!(rt; !rebuild_short(&levels, scan, &[4; 64], 1, &mut lanes, &mut out));
+    levels[9] = 0;
+    levels[7] = 8192;
+    assert!(rt; !rebuild_short(&levels, scan, &[4; 64], 1, &mut lanes, &mut out));
 }
 
 #[test]

@@ -7,7 +7,7 @@ use Rattle.prores_codes.specs.declared.heads.LevelHead.{LevelHead}
 use Rattle.prores_codes.specs.Codes.{Parameters, Spells}
 use Rattle.prores_codes.specs.Choices.{run_parameters, level_parameters}
 use Rattle.prores_codes.specs.Spellings.{Reads}
-use Rattle.prores_codes.specs.Heads.{IsRunRow, IsRunHead, IsLevelRow, IsLevelHead, SpellsLevel}
+use Rattle.prores_codes.specs.Heads.{IsRunRow, IsRunHead, IsLevelRow, IsLevelHead, SpellsLevel, ReadsPair}
 use Rattle.prores_codes.specs.Heads as heads
 use Rattle.slice_parts.specs.Pairs.{PairSpells, pair_state, pair_of, sign_bit}
 use Rattle.slice_parts.specs.declared.fault.PartFault.{PartFault}
@@ -64,6 +64,22 @@ pair_reads run size here first behind n level r s = record {
     joined = ap (λ (bs : List ℕ). r.spelling ++ bs) (s.coded.joined ∙ ap (λ (b : ℕ). s.coded.size ++ b ∷ []) (same_sign level));
   };
   taken = takes_more here first behind r.spelling s.spelled r.taken s.taken;
+}
+
+-- and so are those that the tables say at once
+pub read_heads_are_pair : (run size : ℕ) (here behind : Reading) (n : ℕ) (level : ℤ) → ReadsPair run size here behind n level
+    → ReadsOne PairSpells (pair_state run size) here behind (pair_of n level)
+read_heads_are_pair run size here behind n level r = record {
+  spelled = r.one ++ r.two;
+  coded = record {
+    some = r.level_spelled.some;
+    run = r.one;
+    size = r.level_spelled.size;
+    run_spelled = r.run_spelled;
+    size_spelled = r.level_spelled.size_spelled;
+    joined = ap (λ (bs : List ℕ). r.one ++ bs) (r.level_spelled.joined ∙ ap (λ (b : ℕ). r.level_spelled.size ++ b ∷ []) (same_sign level));
+  };
+  taken = r.taken;
 }
 
 -- a run that is there, and no level, are no pair

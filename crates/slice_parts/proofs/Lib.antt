@@ -9,3 +9,11 @@ pub mod PartLemmas
 pub mod TablePairs
 pub mod MarkLemmas
 pub mod HeadLemmas
+pub mod CountLemmas
+pub mod RunLemmas
+pub mod CostLemmas
+pub mod ChangeLemmas
+pub mod GapLemmas
+pub mod WordLemmas
+pub mod AcLemmas
+pub mod ShortLemmas

@@ -1,6 +1,7 @@
 -- A number of bits that the spelling of levels has at least, from the sizes of the levels alone (own). docs/formats/frames.md, "Rate rule".
-use Rattle.std.specs.Prelude.{◌≡◌, ◌<◌, ◌≤◌, ◌+◌, ◌*◌, ℕ, zero, suc, ℤ, ◌-ℤ◌, List, [], ◌∷◌, length, slice_index, if◌then◌else◌, nat_le}
+use Rattle.std.specs.Prelude.{◌≡◌, ◌<◌, ◌≤◌, ◌+◌, ◌-◌, ◌*◌, ◌/◌, ◌%◌, ℕ, zero, suc, ℤ, ◌-ℤ◌, List, [], ◌∷◌, length, take, drop, map, slice_index, if◌then◌else◌, nat_le}
 use Rattle.std.specs.Int.RustNames.{unsigned_abs}
+use Rattle.prores_scan.specs.ScaledLevels.{signed_of}
 use Rattle.slice_parts.specs.Component.{level_at}
 
 -- 1 where a number reaches a limit
@@ -39,3 +40,26 @@ pub record AreChanges (levels : List ℤ) (changes : List ℕ) : Type 0 where
 pub record AreNoGreater (ys xs : List ℕ) : Type 0 where
   pub long : length ys ≡ length xs
   pub each : (k : ℕ) → k < length ys → slice_index ys k ≤ slice_index xs k
+
+-- the size of the level at a scale of a coefficient with these half steps
+abbrev pub size_at : ℕ → ℕ → ℕ
+size_at scale v = (v / 2 + scale) / (2 * scale)
+
+-- the levels of coefficients with these half steps, each a size with its sign as the last bit
+abbrev pub numbers_at : ℕ → List ℕ → List ℕ
+numbers_at scale half_steps = map (λ v. 2 * size_at scale v + v % 2) half_steps
+
+-- what the levels of two such coefficients differ by at least
+abbrev pub change_at : ℕ → ℕ → ℕ → ℕ
+change_at scale v w = (unsigned_abs (signed_of w -ℤ signed_of v) - 1) / (2 * scale)
+
+-- the same of each and the one before it
+abbrev pub changes_at : ℕ → List ℕ → List ℕ
+changes_at scale [] = []
+changes_at scale (v ∷ []) = []
+changes_at scale (v ∷ w ∷ half_steps) = change_at scale v w ∷ changes_at scale (w ∷ half_steps)
+
+-- a number of bits that the spelling of a part of so many blocks has at least at a scale, from its half steps
+abbrev pub part_bound : ℕ → ℕ → List ℕ → ℕ
+part_bound scale blocks half_steps =
+    6 + dc_bound (changes_at scale (take blocks half_steps)) + ac_bound 0 (map (λ v. size_at scale v) (drop blocks half_steps))

@@ -1,3 +1,4 @@
 pub mod Written
 pub mod Progress
 pub mod Marks
+pub mod Counted

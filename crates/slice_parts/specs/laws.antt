@@ -3,7 +3,9 @@ pub mod DcApart
 pub mod PairSteps
 pub mod PairsApart
 pub mod OneComponent
+pub mod OneBreakLaws
 pub mod SpelledLaws
 pub mod LeastBits
 pub mod LeastByCode
 pub mod BoundLaws
+pub mod PartBound

@@ -11,7 +11,7 @@ ghost use Rattle.slice_parts.specs.Pairs.{PairSpells, ArePairsOf, pair_state, pa
 ghost use Rattle.prores_scan.specs.HalfSteps.{AreAtMost};
 ghost use Rattle.slice_parts.specs.Component.{signed_levels};
 ghost use Rattle.slice_parts.specs.Faults.{NoPair, PairsBreak};
-ghost use Rattle.slice_parts.specs.inner.Marks.{AreMarked};
+ghost use Rattle.slice_parts.specs.inner.Marks.{AreDue, size_before};
 ghost use Rattle.slice_parts.specs.inner.Progress.{ReadsOne, HasPairs};
 
 use crate::fault::PartFault;
@@ -38,90 +38,64 @@ pub fn write_pairs(
     ensures spelled { (s : List ℕ) → ArePairsOf first_pair 0 (drop blocks (signed_levels numbers.now)) s → OnOk result (Puts out.old out.new s) }
 {
     let mut run = 4;
-    let mut size = 1;
+    let mut last = 4;
     let mut row = pair_row(4, 1);
-    let mut zeros = 0;
-    let mut at = blocks;
-    let mut end = 64;
-    let mut marks = first_marks(numbers, blocks);
-    while at < numbers.len() {
-        if marks == 0 {
-            zeros += (end - at) as u32;
-            at = end;
-            marks = marks_from(numbers, at);
-            end += 64;
-            continue;
+    let mut next = blocks;
+    let mut skip = blocks;
+    for word in 0..blocks {
+        let mut marks = due_marks(numbers, 64 * word, skip);
+        skip = 0;
+        while marks != 0 {
+            let place = 64 * word + marks.trailing_zeros() as usize;
+            let number = numbers[place];
+            let zeros = (place - next) as u32;
+            row = put_pair(tables, row, run, last, zeros, number, out)?;
+            run = zeros;
+            last = number;
+            next = place + 1;
+            marks = marks & (marks - 1);
         }
-        let skip = marks.trailing_zeros();
-        let number = numbers[at + skip as usize];
-        let before = zeros + skip;
-        row = put_pair(tables, row, run, size, before, number, out)?;
-        run = before;
-        size = size_less_one(number);
-        zeros = 0;
-        at += skip as usize + 1;
-        marks = marks_behind(marks, skip);
     }
     Ok(())
 }
 
-/// The marks of the levels in the first 64 entries that aren't zero, from the first AC level on.
-fn first_marks(numbers: &[u16], blocks: usize) -> u64
-    requires blocks { blocks ≤ 32 }
-    requires long { 64 ≤ length numbers.now }
-    ensures { AreMarked numbers.now blocks 64 result }
+/// The marks of the levels in 64 entries from a place on that aren't zero, without those of the first entries.
+#[inline(always)]
+fn due_marks(numbers: &[u16], at: usize, skip: usize) -> u64
+    requires inside { at + 64 ≤ length numbers.now }
+    requires skip { skip ≤ 32 }
+    ensures { AreDue numbers.now at (at + skip) result }
 {
-    reached(numbers, 0, 2) >> blocks
+    reached(numbers, at, 2) >> skip << skip
 }
 
-/// The marks of the levels in 64 entries that aren't zero; none behind the last entry.
-fn marks_from(numbers: &[u16], at: usize) -> u64
-    requires at { (at ≤ length numbers.now) × (at % 64 ≡ 0) }
-    requires long { length numbers.now % 64 ≡ 0 }
-    ensures { at < length numbers.now → AreMarked numbers.now at (at + 64) result }
-{
-    if at < numbers.len() {
-        reached(numbers, at, 2)
-    } else {
-        0
-    }
-}
-
-/// The marks behind one of them.
-fn marks_behind(marks: u64, skip: u32) -> u64
-    requires { skip < 64 }
-    ensures { result ≡ marks / 2 ^ (skip + 1) }
-{
-    marks >> skip >> 1
-}
-
-/// Writes a pair of so many zeros and a level, behind a run and a size less one whose row is given, and answers the row
-/// behind it.
+/// Writes a pair of so many zeros and a level, behind a run and a level whose row is given, and answers the row behind it.
 #[inline(always)]
 fn put_pair(
     tables: Option<&Pairs>,
     row: u16,
     run: u32,
-    size: u32,
+    last: u16,
     zeros: u32,
     number: u16,
     out: &mut BitWriter<'_>,
 ) -> Result<u16, Full>
-    requires row { IsPairRow run size row }
+    requires row { IsPairRow run (size_before last) row }
+    requires last { (2 ≤ last) × (last ≤ 2 ^ 14 + 1) }
     requires some { 2 ≤ number }
     requires small { number ≤ 2 ^ 14 + 1 }
     requires few { zeros ≤ 4096 }
     ensures same_reference { lender out.new ≡ lender out.old }
-    ensures accepted { (s : List ℕ) → PairSpells (pair_state run size) s (pair_of zeros (signed_of number)) → (IsOk result ↔ (length s ≤ room out.old)) }
-    ensures spelled { (s : List ℕ) → PairSpells (pair_state run size) s (pair_of zeros (signed_of number)) → OnOk result (Puts out.old out.new s) }
-    ensures row { IfOk result (IsPairRow zeros (unsigned_abs (signed_of number) - 1)) }
+    ensures accepted { (s : List ℕ) → PairSpells (pair_state run (size_before last)) s (pair_of zeros (signed_of number)) → (IsOk result ↔ (length s ≤ room out.old)) }
+    ensures spelled { (s : List ℕ) → PairSpells (pair_state run (size_before last)) s (pair_of zeros (signed_of number)) → OnOk result (Puts out.old out.new s) }
+    ensures row { IfOk result (IsPairRow zeros (size_before number)) }
 {
     match tables {
-        Some(tables) if zeros < 8 && number < 16 => {
+        Some(tables) if (2 * zeros | u32::from(number)) < 16 => {
             put_short_pair(tables, row, zeros, number, out)
         }
         _ => {
-            put_large_pair(run, size, zeros, number, out)?;
+            put_large_pair(run, size_less_one(last), zeros, number, out)?;
             Ok(pair_row(zeros, size_less_one(number)))
         }
     }
@@ -236,17 +210,17 @@ pub fn read_pairs(
 
 /// A pair that was read, and the rows of the codes behind it.
 #[derive(Drop)]
-struct Found {
-    run: u32,
-    size_less_one: u32,
-    level: i64,
-    runs: u16,
-    levels: u16,
+pub struct Found {
+    pub run: u32,
+    pub size_less_one: u32,
+    pub level: i64,
+    pub runs: u16,
+    pub levels: u16,
 }
 
 /// Reads a pair, of which so many levels are free.
 #[inline(always)]
-fn get_pair(
+pub fn get_pair(
     heads: Option<&Heads>,
     runs: u16,
     levels: u16,

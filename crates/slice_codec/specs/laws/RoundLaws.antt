@@ -120,7 +120,7 @@ kind_is_small kind chroma matrix are p lt = (
 )
 
 -- a configuration's weights are small
-setup_is_small : (fields : Fields) (setup : Setup) → IsSetup fields setup → (plane : Plane) → AreSmall (weights_of setup plane)
+pub setup_is_small : (fields : Fields) (setup : Setup) → IsSetup fields setup → (plane : Plane) → AreSmall (weights_of setup plane)
 setup_is_small fields setup is Y = kind_is_small fields.weights false setup.luma is.luma
 setup_is_small fields setup is Cb = kind_is_small fields.weights true setup.chroma is.chroma
 setup_is_small fields setup is Cr = kind_is_small fields.weights true setup.chroma is.chroma

@@ -67,7 +67,7 @@ refused_slices_mean_nothing setup count bytes fault samples refuses means = case
     cases (CoefficientRange block place) r = passing_part setup count bytes (record { block = block; place = place }) r sound
 
 -- a block of a plane is one of its blocks
-block_in : (samples : List (List ℕ)) (plane : Plane) (count block : ℕ) → block < blocks_of plane count
+pub block_in : (samples : List (List ℕ)) (plane : Plane) (count block : ℕ) → block < blocks_of plane count
     → get_or (blocks_in samples plane count) block [] ≡ get_or samples (first_block plane + block) []
 block_in samples plane count block lt =
     get_or-take (blocks_of plane count) (drop (first_block plane) samples) block [] lt ∙ get_or-drop (first_block plane) samples block []

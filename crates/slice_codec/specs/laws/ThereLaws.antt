@@ -1,8 +1,9 @@
 -- A coded slice gives samples back: proved here, for proofs to cite.
-use Rattle.std.proofs.Common.{◌≡◌, ◌≤◌, ◌<◌, ◌+◌, ◌-◌, ◌*◌, ◌/◌, ◌%◌, ℕ, suc, ℤ, pos, true, eqb, if◌then◌else◌, ◌==◌, List, [], ◌∷◌, ◌++◌, map, length, take, drop, get_or, replicate, arith, sym, ap, refl, ◌∙◌, append_assoc}
+use Rattle.std.proofs.Common.{◌≡◌, ◌≤◌, ◌<◌, ◌+◌, ◌-◌, ◌*◌, ◌/◌, ◌%◌, ℕ, zero, suc, ℤ, pos, negsuc, true, eqb, if◌then◌else◌, ◌==◌, List, [], ◌∷◌, ◌++◌, map, length, take, drop, get_or}
+use Rattle.std.proofs.Common.{slice_index, replicate, arith, sym, ap, subst, refl, ◌∙◌, append_assoc, inl, inr}
 use Rattle.std.specs.List.{range_with_len}
-use Rattle.std.proofs.lemmas.Bool.{agree_below, agree_below_at, eqb-true}
-use Rattle.std.proofs.lemmas.List.{take_at, drop_at, drop-drop, length-append, length-replicate, length-take-le, length-drop}
+use Rattle.std.proofs.lemmas.Bool.{agree_below, agree_below_at, cases_lt, eqb-true}
+use Rattle.std.proofs.lemmas.List.{take_at, drop_at, drop-drop, get_or_past, length-append, length-replicate, length-take-le, length-drop}
 use Rattle.std.proofs.lemmas.List.FromFn.{length-map-range_with_len, get_or-map-range_with_len}
 use Rattle.std.proofs.lemmas.Nat.{div-mul-add, mod-mul-add}
 use Rattle.rec_bytes.specs.Configuration.{Fields}
@@ -16,7 +17,7 @@ use Rattle.slice_levels.specs.Rebuilt.{AreRebuilt}
 use Rattle.slice_levels.specs.laws.EntryLaws.{entry_within}
 use Rattle.slice_levels.specs.laws.PlaceLaws.{place_below}
 use Rattle.whole_transform.specs.Sums.{at}
-use Rattle.whole_transform.specs.Transform.{IsInverse, inverse_sum, cell, sample}
+use Rattle.whole_transform.specs.Transform.{IsInverse, clamped, inverse_sum, cell, sample}
 use Rattle.picture_plane.specs.declared.planes.Plane.{Plane}
 use Rattle.picture_plane.specs.declared.planes.Plane.TheVariants.{Y, Cb, Cr}
 use Rattle.picture_plane.specs.Blocks.{blocks_in, blocks_of}
@@ -147,7 +148,7 @@ blocks_stand blocks count few long Cr =
     ap (take (2 * count)) whole ∙ filled_front 16 (2 * count) (blocks Cr) [] (long Cr)
 
 -- a plane of 8 macroblocks or fewer has all its blocks
-blocks_counted : (samples : List (List ℕ)) (plane : Plane) (count : ℕ) → length samples ≡ 64 → count ≤ 8
+pub blocks_counted : (samples : List (List ℕ)) (plane : Plane) (count : ℕ) → length samples ≡ 64 → count ≤ 8
     → length (blocks_in samples plane count) ≡ blocks_of plane count
 blocks_counted samples Y count long few = length-take-le (4 * count) samples (omega (arith, long, few))
 blocks_counted samples Cb count long few = length-take-le (2 * count) (drop 32 samples) (omega (arith, long, few, length-drop 32 samples))
@@ -164,9 +165,65 @@ levels_of_plane fields count source bytes coded Y = record { bits = coded.coded.
 levels_of_plane fields count source bytes coded Cb = record { bits = coded.coded.cb; part = coded.coded.cb_spelled }
 levels_of_plane fields count source bytes coded Cr = record { bits = coded.coded.cr; part = coded.coded.cr_spelled }
 
--- a coded slice gives samples back
+-- a sample that is given back has ten bits
+clamped_small : (total : ℤ) → clamped total < 1024
+unfolding clamped
+clamped_small (pos n) = omega arith
+clamped_small (negsuc n) = omega arith
+
+block_small : (raster : List ℤ) (k : ℕ) → slice_index (block_from raster) k < 1024
+unfolding block_from sample
+block_small raster k =
+    let value : ℕ → ℕ = λ p. sample (inverse_sum (cell raster) (p / 8) (p % 8)) in
+    elim (cases_lt k 64) [
+      | inl lt ↦ subst (λ (x : ℕ). x < 1024) (sym (table_at 64 value k 0 lt)) (clamped_small _)
+      | inr ge ↦ subst (λ (x : ℕ). x < 1024) (sym (get_or_past (table 64 value) k 0 (omega (arith, ge, length-map-range_with_len value 0 64)))) (omega arith)
+    ]
+
+-- all samples have ten bits
+abbrev pub AreTenBits : List (List ℕ) → Type 0
+AreTenBits blocks = (block place : ℕ) → slice_index (get_or blocks block []) place < 1024
+
+blocks_small : (scan : Scan) (weights : List ℕ) (scale count : ℕ) (levels : List ℤ) → AreTenBits (blocks_from scan weights scale count levels)
+blocks_small scan weights scale count levels b k =
+    let blocks = blocks_from scan weights scale count levels in
+    elim (cases_lt b count) [
+      | inl lt ↦ subst (λ (xs : List ℕ). slice_index xs k < 1024) (sym (block_stands scan weights scale count levels b lt)) (block_small _ k)
+      | inr ge ↦
+          let past = get_or_past blocks b [] (omega (arith, ge, blocks_long scan weights scale count levels)) in
+          subst (λ (xs : List ℕ). slice_index xs k < 1024) (sym past) (omega arith)
+    ]
+
+zeros_small : (n k : ℕ) → slice_index (replicate n 0) k < 1024
+zeros_small zero k = omega arith
+zeros_small (suc n) zero = omega arith
+zeros_small (suc n) (suc k) = zeros_small n k
+
+blanks_small : (n : ℕ) → AreTenBits (replicate n blank)
+blanks_small zero b k = omega arith
+blanks_small (suc n) zero k = zeros_small 64 k
+blanks_small (suc n) (suc b) k = blanks_small n b k
+
+both_small : (xs ys : List (List ℕ)) → AreTenBits xs → AreTenBits ys → AreTenBits (xs ++ ys)
+both_small [] ys one two b k = two b k
+both_small (x ∷ xs) ys one two zero k = one 0 k
+both_small (x ∷ xs) ys one two (suc b) k = both_small xs ys (λ c. one (suc c)) two b k
+
+filled_small : (n : ℕ) (blocks : List (List ℕ)) → AreTenBits blocks → AreTenBits (filled n blocks)
+unfolding filled
+filled_small n blocks small = both_small blocks (replicate (n - length blocks) blank) small (blanks_small (n - length blocks))
+
+samples_small : (blocks : Plane → List (List ℕ)) → ((plane : Plane) → AreTenBits (blocks plane)) → AreTenBits (slice_samples blocks)
+unfolding slice_samples
+samples_small blocks small =
+    let none : AreTenBits [] = blanks_small 0 in
+    let red = both_small (filled 16 (blocks Cr)) [] (filled_small 16 (blocks Cr) (small Cr)) none in
+    let blue = both_small (filled 16 (blocks Cb)) (filled 16 (blocks Cr) ++ []) (filled_small 16 (blocks Cb) (small Cb)) red in
+    both_small (filled 32 (blocks Y)) (filled 16 (blocks Cb) ++ (filled 16 (blocks Cr) ++ [])) (filled_small 32 (blocks Y) (small Y)) blue
+
+-- a coded slice gives samples of ten bits back
 pub rebuilt_slice_is_there : (fields : Fields) (count : ℕ) (source : List (List ℕ)) (bytes : List ℕ) → count ≤ 8 → length source ≡ 64
-    → IsCodedSlice fields count source bytes → (samples : List (List ℕ)) × IsRebuiltSlice fields count source samples
+    → IsCodedSlice fields count source bytes → (samples : List (List ℕ)) × IsRebuiltSlice fields count source samples × AreTenBits samples
 rebuilt_slice_is_there fields count source bytes few whole coded =
     let levels : Plane → List ℤ = λ plane. (levels_of_plane fields count source bytes coded plane).part.levels in
     let blocks : Plane → List (List ℕ) = λ plane. blocks_from coded.setup.scan (weights_of coded.setup plane) (scale_of coded.index) (blocks_of plane count) (levels plane) in
@@ -185,4 +242,6 @@ rebuilt_slice_is_there fields count source bytes few whole coded =
           inverse = are_rebuilt coded.setup.scan (weights_of coded.setup plane) (scale_of coded.index) (blocks_of plane count) (levels plane);
         });
       },
+      samples_small blocks (λ plane.
+          blocks_small coded.setup.scan (weights_of coded.setup plane) (scale_of coded.index) (blocks_of plane count) (levels plane)),
     )

@@ -3,10 +3,11 @@ use Rattle.std.proofs.Common.{◌≡◌, ℕ, ◌+◌, ◌<◌, ◌≤◌, arith
 use Rattle.std.proofs.lemmas.Bool.{cases_lt}
 use Rattle.slice_parts.specs.Bound.{reaches, least_run, least_size, least_change}
 
-reached : (limit n : ℕ) → limit ≤ n → reaches limit n ≡ 1
+-- a limit is reached or not
+pub reached : (limit n : ℕ) → limit ≤ n → reaches limit n ≡ 1
 reached limit n h = grind (arith, h)
 
-short_of : (limit n : ℕ) → n < limit → reaches limit n ≡ 0
+pub short_of : (limit n : ℕ) → n < limit → reaches limit n ≡ 0
 short_of limit n h = grind (arith, h)
 
 once : (limit n : ℕ) → reaches limit n ≤ 1

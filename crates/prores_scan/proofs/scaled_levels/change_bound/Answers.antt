@@ -1,5 +1,5 @@
 use Rattle.std.proofs.Common.{◌-◌, ◌/◌, ◌*◌, ◌≡◌, ap, ◌∙◌, arith}
-use Rattle.prores_scan.proofs.ChangeLemmas.{change_is}
+use Rattle.prores_scan.specs.laws.ChangeLaws.{change_is}
 use Rattle.prores_scan.proofs.scaled_levels.change_bound.Goals as goal
 
 pub returns-else-change-eq0-clause-apart : goal.returns-else-change-eq0-clause-apart

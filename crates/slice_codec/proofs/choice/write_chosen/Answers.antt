@@ -1,5 +1,6 @@
 use Rattle.std.proofs.Common.{rules, ◌≡◌, length, take, drop, arith, refl}
 use Rattle.std.proofs.lemmas.List.{length-take-le}
+use Rattle.slice_codec.proofs.BoundLemmas.{none_pass}
 use Rattle.slice_codec.proofs.ChoiceLemmas.{none_more, chosen_fits, chosen_last}
 use Rattle.slice_codec.proofs.choice.write_chosen.Goals as goal
 
@@ -11,6 +12,15 @@ returns-in-Some-clause-chosen c = λ setup count samples weighed.
     (c.loop-index.invariant.least setup count samples weighed) (search rules) (omega (arith, c.loop-index-test.true))
     (c.in-Some.ensures.written setup count samples weighed) c.in-Some.ensures.within long
 
+pub loop-index-init : goal.loop-index-init
+loop-index-init c = record {
+  least = λ setup count samples weighed.
+      none_pass setup count samples c.args.rule.room c.args.rule.first c.first_possible-possible.result c.args.y.now c.args.cb.now c.args.cr.now
+      c.requires.some c.requires.y c.requires.cb c.requires.cr c.first_possible-possible.ensures.passed weighed;
+  from = search rules;
+  long = search rules;
+}
+
 pub loop-index-preserved : goal.loop-index-preserved
 loop-index-preserved c = record {
   least = λ setup count samples weighed.
@@ -18,6 +28,7 @@ loop-index-preserved c = record {
       let whole : length (take rule.room c.loop-index.out) ≡ rule.room = length-take-le rule.room c.loop-index.out (omega (arith, c.requires.room, c.loop-index.invariant.long)) in
       none_more setup count samples rule.room (length (take rule.room c.loop-index.out)) rule.first c.loop-index.index whole
       (c.loop-index.invariant.least setup count samples weighed) (c.in-None.ensures.refused setup count samples weighed refl);
+  from = search rules;
   long = search rules;
 }
 

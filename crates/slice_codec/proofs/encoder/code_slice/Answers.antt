@@ -12,5 +12,5 @@ returns-clause-coded c =
     let samples = c.args.samples.now in
     let weighed = c.weigh_slice.ensures.weighed in
     coded_slice (view coding.config) (setup_of coding) count samples rule.result.room rule.result.first rule.result.last
-    (take c.write_chosen.result c.write_chosen.new.out) coding.setup rule.ensures.room rule.ensures.first rule.ensures.last
-    (c.write_chosen.ensures.chosen (setup_of coding) count samples (rw (c.entry_count-luma.ensures, c.entry_count-chroma.ensures) weighed))
+    (take c.write_chosen-used.result c.write_chosen-used.new.out) coding.setup rule.ensures.room rule.ensures.first rule.ensures.last
+    (c.write_chosen-used.ensures.chosen (setup_of coding) count samples (rw (c.entry_count-luma.ensures, c.entry_count-chroma.ensures) weighed))

@@ -1,141 +1,109 @@
-use Rattle.std.proofs.Common.{◌≡◌, ◌<◌, ◌-◌, ◌+◌, ℕ, ℤ, drop, length, refl, subst, rules, arith, false, true, slice_index, w64}
+use Rattle.std.proofs.Common.{◌≡◌, ◌≤◌, ◌<◌, ◌-◌, ◌+◌, ◌*◌, ◌^◌, ℕ, ℤ, drop, length, refl, subst, rules, arith, false, true, slice_index, w64}
 use Rattle.std.specs.Int.{trailing_zeros}
 use Rattle.std.specs.Int.RustNames.{unsigned_abs}
 use Rattle.std.proofs.lemmas.Result.{err_from_is_err_and}
 use Rattle.prores_scan.specs.ScaledLevels.{signed_of}
 use Rattle.slice_parts.specs.Component.{signed_levels}
 use Rattle.slice_parts.specs.Pairs.{PairState, PairSpells, ArePairsOf, pair_state, pair_of}
-use Rattle.slice_parts.specs.inner.Marks.{AreMarked}
-use Rattle.slice_parts.proofs.NumberLemmas.{signed_long}
-use Rattle.slice_parts.proofs.MarkLemmas.{first_mark, marks_after, pairs_marked, pairs_pass}
-use Rattle.slice_parts.specs.laws.PairSteps.{pairs_end}
-use Rattle.slice_parts.proofs.WroteLemmas.{wrote_more, wrote_full, wrote_all, wrote_kept, never}
+use Rattle.slice_parts.specs.inner.Marks.{AreDue, size_before}
+use Rattle.slice_parts.proofs.MarkLemmas.{first_mark, due_word, due_behind, due_none, pairs_marked, pairs_over}
+use Rattle.slice_parts.proofs.WroteLemmas.{wrote_more, wrote_full, wrote_all, never}
 use Rattle.slice_parts.proofs.pairs.write_pairs.Goals as goal
 
-pub loop-at-preserved-then-marks-eq0 : goal.loop-at-preserved-then-marks-eq0
-loop-at-preserved-then-marks-eq0 c =
-    let l = c.loop-at in
-    let numbers = c.args.numbers.now in
-    let lt : l.at < length numbers = c.loop-at-test.true in
-    let marked : AreMarked numbers l.at l.end 0 = subst (AreMarked numbers l.at l.end) c.if-marks-eq0.true (l.invariant.marked lt) in
-    let state : PairState = pair_state l.run l.size in
-    record {
-      same = l.invariant.same;
-      few = omega (arith, l.invariant.few, marked.within);
-      within = l.invariant.inside lt;
-      aligned = omega (arith, l.invariant.aligned);
-      inside = λ h. omega (arith, h, l.invariant.aligned, c.requires.long);
-      marked = c.marks_from-marks.ensures;
-      row = l.invariant.row;
-      wrote = λ s is. wrote_kept c.args.out.now l.out (ArePairsOf state l.zeros (drop l.at (signed_levels numbers))) (ArePairsOf state (l.zeros + (l.end - l.at)) (drop l.end (signed_levels numbers))) s (l.invariant.wrote s is)
-          (λ rest h. pairs_pass state l.zeros l.at l.end numbers rest (l.invariant.inside lt) marked h);
-    }
+pub loop-marks-init : goal.loop-marks-init
+loop-marks-init c = record {
+  same = c.loop-word.invariant.same;
+  due = due_word c.args.numbers.now c.loop-word.word c.args.blocks c.loop-word.skip c.loop-word.next c.due_marks-marks.result c.loop-word.invariant.first c.loop-word.invariant.others c.loop-word.invariant.zeros
+      c.due_marks-marks.ensures;
+  row = c.loop-word.invariant.row;
+  some = c.loop-word.invariant.some;
+  small = c.loop-word.invariant.small;
+  wrote = c.loop-word.invariant.wrote;
+}
 
-pub bounds-numbers-at : goal.bounds-numbers-at
-bounds-numbers-at c =
-    let l = c.loop-at in
-    let numbers = c.args.numbers.now in
-    let lt : l.at < length numbers = c.loop-at-test.true in
-    let skip : ℕ = trailing_zeros w64 l.marks in
-    let first = first_mark numbers l.at l.end l.marks (omega (arith, c.if-marks-eq0.false)) (l.invariant.marked lt) in
-    let inside : l.at + trailing_zeros w64 l.marks < length numbers = omega (arith, first.inside, l.invariant.inside lt) in
-    inside
+pub overflow_sub-zeros : goal.overflow_sub-zeros
+overflow_sub-zeros c =
+    (first_mark c.args.numbers.now (64 * c.loop-word.word) c.loop-marks.next c.loop-marks.marks (omega (arith, c.loop-marks-test.true)) (omega arith) c.loop-marks.invariant.due).from
 
 pub put_pair-requires-clause-some : goal.put_pair-requires-clause-some
 put_pair-requires-clause-some c =
-    let l = c.loop-at in
-    let numbers = c.args.numbers.now in
-    let lt : l.at < length numbers = c.loop-at-test.true in
-    let skip : ℕ = trailing_zeros w64 l.marks in
-    let first = first_mark numbers l.at l.end l.marks (omega (arith, c.if-marks-eq0.false)) (l.invariant.marked lt) in
-    let inside : l.at + trailing_zeros w64 l.marks < length numbers = omega (arith, first.inside, l.invariant.inside lt) in
-    first.some
-
-pub size_less_one-size-requires-clause-some : goal.size_less_one-size-requires-clause-some
-size_less_one-size-requires-clause-some c =
-    let l = c.loop-at in
-    let numbers = c.args.numbers.now in
-    let lt : l.at < length numbers = c.loop-at-test.true in
-    let skip : ℕ = trailing_zeros w64 l.marks in
-    let first = first_mark numbers l.at l.end l.marks (omega (arith, c.if-marks-eq0.false)) (l.invariant.marked lt) in
-    let inside : l.at + trailing_zeros w64 l.marks < length numbers = omega (arith, first.inside, l.invariant.inside lt) in
-    first.some
-
-pub size_less_one-size-requires-clause-small : goal.size_less_one-size-requires-clause-small
-size_less_one-size-requires-clause-small c =
-    let l = c.loop-at in
-    let numbers = c.args.numbers.now in
-    let lt : l.at < length numbers = c.loop-at-test.true in
-    let skip : ℕ = trailing_zeros w64 l.marks in
-    let first = first_mark numbers l.at l.end l.marks (omega (arith, c.if-marks-eq0.false)) (l.invariant.marked lt) in
-    let inside : l.at + trailing_zeros w64 l.marks < length numbers = omega (arith, first.inside, l.invariant.inside lt) in
-    c.requires.small (l.at + skip) inside
-
-pub marks_behind-marks-requires : goal.marks_behind-marks-requires
-marks_behind-marks-requires c =
-    let l = c.loop-at in
-    let numbers = c.args.numbers.now in
-    let lt : l.at < length numbers = c.loop-at-test.true in
-    let skip : ℕ = trailing_zeros w64 l.marks in
-    let first = first_mark numbers l.at l.end l.marks (omega (arith, c.if-marks-eq0.false)) (l.invariant.marked lt) in
-    let inside : l.at + trailing_zeros w64 l.marks < length numbers = omega (arith, first.inside, l.invariant.inside lt) in
-    first.few
+    (first_mark c.args.numbers.now (64 * c.loop-word.word) c.loop-marks.next c.loop-marks.marks (omega (arith, c.loop-marks-test.true)) (omega arith) c.loop-marks.invariant.due).some
 
 pub returns-in_err-row-clause-accepted : goal.returns-in_err-row-clause-accepted
 returns-in_err-row-clause-accepted c = λ s is.
-    let l = c.loop-at in
+    let l = c.loop-marks in
     let numbers = c.args.numbers.now in
-    let lt : l.at < length numbers = c.loop-at-test.true in
-    let skip : ℕ = trailing_zeros w64 l.marks in
-    let first = first_mark numbers l.at l.end l.marks (omega (arith, c.if-marks-eq0.false)) (l.invariant.marked lt) in
-    let inside : l.at + trailing_zeros w64 l.marks < length numbers = omega (arith, first.inside, l.invariant.inside lt) in
-    let state : PairState = pair_state l.run l.size in
-    let x : ℤ = signed_of (slice_index numbers (l.at + skip)) in
+    let first = first_mark numbers (64 * c.loop-word.word) l.next l.marks (omega (arith, c.loop-marks-test.true)) (omega arith) l.invariant.due in
+    let place : ℕ = 64 * c.loop-word.word + trailing_zeros w64 l.marks in
+    let inside : place < length numbers = omega (arith, first.few, c.requires.long, c.loop-word-test.true, c.loop-word.auto.word-end) in
+    let state : PairState = pair_state l.run (size_before l.last) in
+    let x : ℤ = signed_of (slice_index numbers place) in
     let k = c.in_err-row.ensures.accepted in
     let p = err_from_is_err_and c.from_residual.result c.from_residual.ensures.1 in
-    let full = wrote_full c.args.out.now l.out (ArePairsOf state l.zeros (drop l.at (signed_levels numbers))) (λ one. PairSpells state one (pair_of (l.zeros + skip) x))
-    (ArePairsOf (pair_state (l.zeros + skip) (unsigned_abs x - 1)) 0 (drop (l.at + skip + 1) (signed_levels numbers))) s
-    (l.invariant.wrote s is) (λ rest h. pairs_marked state l.zeros l.at skip numbers rest inside first.some first.none h) (λ one h fits. never ((k one h).1 fits)) in
+    let full = wrote_full c.args.out.now l.out (ArePairsOf state 0 (drop l.next (signed_levels numbers))) (λ one. PairSpells state one (pair_of (place - l.next) x))
+    (ArePairsOf (pair_state (place - l.next) (unsigned_abs x - 1)) 0 (drop (place + 1) (signed_levels numbers))) s
+    (l.invariant.wrote s is) (λ rest h. pairs_marked state l.next place numbers rest first.from inside first.some first.none h) (λ one h fits. never ((k one h).1 fits)) in
     rw p.1 ((λ (e : false ≡ true). absurd (never e)), λ fits. absurd (full fits))
 
-pub loop-at-preserved : goal.loop-at-preserved
-loop-at-preserved c =
-    let l = c.loop-at in
+pub loop-marks-smaller : goal.loop-marks-smaller
+loop-marks-smaller c =
+    let l = c.loop-marks in
+    let first = first_mark c.args.numbers.now (64 * c.loop-word.word) l.next l.marks (omega (arith, c.loop-marks-test.true)) (omega arith) l.invariant.due in
+    omega (arith, first.from, first.few)
+
+pub loop-marks-preserved : goal.loop-marks-preserved
+loop-marks-preserved c =
+    let l = c.loop-marks in
     let numbers = c.args.numbers.now in
-    let lt : l.at < length numbers = c.loop-at-test.true in
-    let skip : ℕ = trailing_zeros w64 l.marks in
-    let first = first_mark numbers l.at l.end l.marks (omega (arith, c.if-marks-eq0.false)) (l.invariant.marked lt) in
-    let inside : l.at + trailing_zeros w64 l.marks < length numbers = omega (arith, first.inside, l.invariant.inside lt) in
-    let state : PairState = pair_state l.run l.size in
-    let x : ℤ = signed_of (slice_index numbers (l.at + skip)) in
+    let some : 0 < l.marks = omega (arith, c.loop-marks-test.true) in
+    let few : l.marks < 2 ^ 64 = omega arith in
+    let first = first_mark numbers (64 * c.loop-word.word) l.next l.marks some few l.invariant.due in
+    let place : ℕ = 64 * c.loop-word.word + trailing_zeros w64 l.marks in
+    let inside : place < length numbers = omega (arith, first.few, c.requires.long, c.loop-word-test.true, c.loop-word.auto.word-end) in
+    let state : PairState = pair_state l.run (size_before l.last) in
+    let x : ℤ = signed_of (slice_index numbers place) in
     let k = c.in_ok-row.ensures in
-    let size = c.size_less_one-size.ensures.value in
-    let next : l.at + trailing_zeros w64 l.marks + 1 ≡ l.at + (trailing_zeros w64 l.marks + 1) = omega arith in
-    let behind = marks_after numbers l.at l.end l.marks (skip + 1) (omega (arith, first.inside)) (l.invariant.marked lt) in
     record {
       same = search rules;
-      few = omega arith;
-      within = omega (arith, inside);
-      aligned = l.invariant.aligned;
-      inside = λ h. l.invariant.inside lt;
-      marked = λ h. rw c.marks_behind-marks.ensures behind;
-      row = rw size k.row;
-      wrote = λ s is. rw (size, ← next) (wrote_more c.args.out.now l.out c.put_pair.new.out (ArePairsOf state l.zeros (drop l.at (signed_levels numbers))) (λ one. PairSpells state one (pair_of (l.zeros + skip) x))
-          (ArePairsOf (pair_state (l.zeros + skip) (unsigned_abs x - 1)) 0 (drop (l.at + skip + 1) (signed_levels numbers))) s
-          (l.invariant.wrote s is) (λ rest h. pairs_marked state l.zeros l.at skip numbers rest inside first.some first.none h) (λ one h. k.spelled one h) (λ one h. (k.accepted one h).0 refl));
+      due = due_behind numbers (64 * c.loop-word.word) l.next l.marks some few l.invariant.due;
+      row = k.row;
+      some = first.some;
+      small = c.requires.small place inside;
+      wrote = λ s is. wrote_more c.args.out.now l.out c.put_pair.new.out (ArePairsOf state 0 (drop l.next (signed_levels numbers))) (λ one. PairSpells state one (pair_of (place - l.next) x))
+          (ArePairsOf (pair_state (place - l.next) (unsigned_abs x - 1)) 0 (drop (place + 1) (signed_levels numbers))) s
+          (l.invariant.wrote s is) (λ rest h. pairs_marked state l.next place numbers rest first.from inside first.some first.none h) (λ one h. k.spelled one h) (λ one h. (k.accepted one h).0 refl);
+    }
+
+pub loop-word-preserved : goal.loop-word-preserved
+loop-word-preserved c =
+    let l = c.loop-marks in
+    let due : AreDue c.args.numbers.now (64 * c.loop-word.word) l.next 0 = subst (AreDue c.args.numbers.now (64 * c.loop-word.word) l.next) c.loop-marks-test.false l.invariant.due in
+    record {
+      same = l.invariant.same;
+      first = λ e. absurd (omega (arith, e));
+      others = λ e. (refl, omega (arith, due.few));
+      zeros = λ e from lt. due_none c.args.numbers.now (64 * c.loop-word.word) l.next due e from (omega (arith, lt));
+      row = l.invariant.row;
+      some = l.invariant.some;
+      small = l.invariant.small;
+      wrote = l.invariant.wrote;
     }
 
 pub returns-clause-accepted : goal.returns-clause-accepted
 returns-clause-accepted c = λ s is.
-    let l = c.loop-at in
-    let levels = signed_levels c.args.numbers.now in
-    let state : PairState = pair_state l.run l.size in
-    let all = wrote_all c.args.out.now l.out (ArePairsOf state l.zeros (drop l.at levels)) s (l.invariant.wrote s is) (λ rest h. pairs_end state l.zeros l.at levels rest (omega (arith, signed_long c.args.numbers.now, c.loop-at-test.false)) h) in
+    let l = c.loop-word in
+    let numbers = c.args.numbers.now in
+    let state : PairState = pair_state l.run (size_before l.last) in
+    let order : l.next ≤ length numbers = omega (arith, (l.invariant.others (omega (arith, c.loop-word-test.false, l.auto.word-end, c.requires.blocks))).1, c.requires.long, l.auto.word-end) in
+    let all = wrote_all c.args.out.now l.out (ArePairsOf state 0 (drop l.next (signed_levels numbers))) s (l.invariant.wrote s is)
+    (λ rest h. pairs_over state l.next numbers rest order (λ e from lt. l.invariant.zeros e from (omega (arith, lt, c.requires.long, c.loop-word-test.false))) h) in
     ((λ _. all.1), (λ _. refl))
 
 pub returns-clause-spelled : goal.returns-clause-spelled
 returns-clause-spelled c = λ s is.
-    let l = c.loop-at in
-    let levels = signed_levels c.args.numbers.now in
-    let state : PairState = pair_state l.run l.size in
-    (wrote_all c.args.out.now l.out (ArePairsOf state l.zeros (drop l.at levels)) s (l.invariant.wrote s is) (λ rest h. pairs_end state l.zeros l.at levels rest (omega (arith, signed_long c.args.numbers.now, c.loop-at-test.false)) h)).0
+    let l = c.loop-word in
+    let numbers = c.args.numbers.now in
+    let state : PairState = pair_state l.run (size_before l.last) in
+    let order : l.next ≤ length numbers = omega (arith, (l.invariant.others (omega (arith, c.loop-word-test.false, l.auto.word-end, c.requires.blocks))).1, c.requires.long, l.auto.word-end) in
+    (wrote_all c.args.out.now l.out (ArePairsOf state 0 (drop l.next (signed_levels numbers))) s (l.invariant.wrote s is)
+    (λ rest h. pairs_over state l.next numbers rest order (λ e from lt. l.invariant.zeros e from (omega (arith, lt, c.requires.long, c.loop-word-test.false))) h)).0

@@ -58,3 +58,20 @@ returns-then-count-ge32-clause-put c =
       size = size;
       behind = same_behind (w.at + 4) _ c.store.new.out w.out.now (omega (arith, long)) c.store.ensures.behind;
     }
+
+pub returns-then-count-self-clause-accepted : goal.returns-then-count-self-clause-accepted
+unfolding bits_put
+returns-then-count-self-clause-accepted c =
+    let w = c.args.self.now in
+    let size : length (bits_of (take w.at w.out.now) ++ bits w.count w.acc) ≡ 8 * w.at + w.count = length-put w.at w.count w.acc w.out.now (omega (arith, w.within)) in
+    ((λ _. omega (arith, w.free, c.from.ensures, c.if-count-self.true)), (λ _. refl))
+
+pub returns-then-count-self-clause-put : goal.returns-then-count-self-clause-put
+unfolding bits_put
+returns-then-count-self-clause-put c =
+    let w = c.args.self.now in
+    record {
+      put = rw (c.from.ensures, c.from-then-count-self.ensures) (waiting w.at w.count c.args.n w.acc c.args.value w.out.now (omega (arith, c.requires.narrow, w.pending)) c.requires.small);
+      size = refl;
+      behind = refl;
+    }

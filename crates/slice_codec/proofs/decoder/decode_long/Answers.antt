@@ -4,7 +4,7 @@ use Rattle.std.proofs.lemmas.Result.{err_from_is_err_and}
 use Rattle.picture_plane.specs.Blocks.{blocks_in}
 use Rattle.slice_codec.specs.Views.{as_setup}
 use Rattle.slice_codec.proofs.DecodedLemmas.{front_is, decoded_part, passing_part}
-use Rattle.slice_codec.proofs.decoder.decode_part.Goals as goal
+use Rattle.slice_codec.proofs.decoder.decode_long.Goals as goal
 
 pub returns-in_err-read_levels-clause-refused : goal.returns-in_err-read_levels-clause-refused
 returns-in_err-read_levels-clause-refused c =

@@ -1,4 +1,4 @@
--- How far apart levels are, from specs/ScaledLevels.antt.
+-- Laws of how far apart levels are: proved here, for proofs to cite.
 use Rattle.std.proofs.Common.{◌≡◌, ℕ, ◌+◌, ◌-◌, ◌*◌, ◌/◌, ◌^◌, ◌<◌, ◌≤◌, sym, ap, ap₂, ◌∙◌, arith, pos, negsuc, ◌-ℤ◌, ⊎_elim}
 use Rattle.std.specs.Prelude.{ℤ}
 use Rattle.std.specs.Int.RustNames.{unsigned_abs}

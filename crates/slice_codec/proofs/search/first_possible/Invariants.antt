@@ -1,0 +1,14 @@
+use Rattle.std.proofs.Common.{◌≤◌, ◌-◌}
+use Rattle.slice_codec.specs.inner.Bounded.{AllPass}
+use Rattle.slice_codec.proofs.search.first_possible.Given as goal
+
+abbrev pub invariant-loop-low : goal.invariant-loop-low
+invariant-loop-low l = record {
+  from : l.rule.first ≤ l.low;
+  within : l.low ≤ l.rule.last;
+  most : l.high ≤ l.rule.last;
+  passed : AllPass l.rule.room l.rule.first l.low l.y l.cb l.cr;
+}
+
+abbrev pub decreases-loop-low : goal.decreases-loop-low
+decreases-loop-low l = l.high - l.low
