@@ -1,10 +1,11 @@
 -- Bytes break one first rule.
-use Rattle.std.proofs.Common.{◌≡◌, ◌⊎◌, inl, inr, ℕ, ◌+◌, ◌<◌, ◌≤◌, List, Some, None, take, sum, refl, sym, ap, ap₂, subst, ◌∙◌, arith}
+use Rattle.std.proofs.Common.{◌≡◌, inl, inr, ℕ, ◌+◌, ◌<◌, ◌≤◌, List, Some, None, take, sum, sym, ap, subst, ◌∙◌, arith}
 use Rattle.std.proofs.lemmas.Bool.{cases_lt}
 use Rattle.std.proofs.lemmas.List.{take-take}
 use Rattle.std.proofs.lemmas.List.Sums.{sum_by-take-le}
-use Rattle.frame_syntax.specs.Pictures.{SlicesFit, PassesAt, Passes, sizes_of, entry_at}
-use Rattle.frame_syntax.specs.Frames.{PassesSecond, RefusesTable, Refuses, parts_of}
+use Rattle.frame_syntax.specs.Pictures.{PassesAt, Passes, sizes_of, entry_at}
+use Rattle.frame_syntax.specs.Frames.{RefusesTable, Refuses, parts_of}
+use Rattle.frame_syntax.specs.laws.FrameLaws.{none_passes}
 use Rattle.frame_syntax.specs.declared.fault.FrameFault.{FrameFault}
 use Rattle.frame_syntax.specs.declared.fault.FrameFault.TheVariants.{SliceTable}
 use Rattle.frame_syntax.specs.declared.picture_head.PictureHead.{PictureHead}
@@ -30,13 +31,6 @@ passes_once bytes picture n m p q = elim (cases_lt n m) [
     | inr other ↦ omega arith
   ]
 ]
-
--- slices that end inside their coded picture don't pass it
-pub none_passes : (bytes : List ℕ) (picture : PictureHead) (number : ℕ) (fault : FrameFault) → SlicesFit bytes picture → Passes bytes picture number fault → ⊥
-none_passes bytes picture number fault fit p =
-    let less = sum_by-take-le (λ (x : ℕ). x) (sizes_of bytes picture) (p.n + 1) in
-    let past = p.passes.past in
-    omega (arith, less, past, fit)
 
 passes_one : (bytes : List ℕ) (picture : PictureHead) (number : ℕ) (a b : FrameFault) → Passes bytes picture number a → Passes bytes picture number b → a ≡ b
 passes_one bytes picture number a b p q =

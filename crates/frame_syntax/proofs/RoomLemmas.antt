@@ -1,10 +1,10 @@
 -- The room that the coded pictures of a frame have.
-use Rattle.std.proofs.Common.{◌≡◌, ◌==◌, ◌&&◌, ◌+◌, ◌≤◌, ℕ, List, [], ◌∷◌, ◌++◌, Bool, true, false, Option, Some, None, IfSome, nat_le, length, refl, sym, ap, subst, ◌∙◌, if◌then◌else◌}
+use Rattle.std.proofs.Common.{◌≡◌, ◌==◌, ◌&&◌, ◌+◌, ℕ, List, [], ◌∷◌, ◌++◌, Bool, true, false, Some, None, IfSome, nat_le, length, refl, subst, if◌then◌else◌}
 use Rattle.std.proofs.lemmas.Bool.{and_parts, leb-true}
 use Rattle.frame_syntax.specs.Headers.{header_of}
 use Rattle.frame_syntax.specs.Pictures.{front_len}
 use Rattle.frame_syntax.specs.Rules.{Rule, first_broken, opening_rules, head_rules, rules_from, picture_rules, frame_rules, is_sized, first_picture, picture_behind}
-use Rattle.frame_syntax.specs.Frames.{IsFrame, parts_of, second_picture}
+use Rattle.frame_syntax.specs.Frames.{IsFrame, second_picture}
 use Rattle.frame_syntax.specs.inner.Rooms.{IsRoomy}
 use Rattle.frame_syntax.specs.declared.fault.FrameFault.{FrameFault}
 use Rattle.frame_syntax.specs.declared.frame.FrameParts.{FrameParts}

@@ -1,5 +1,5 @@
 -- The first rule of a frame that is broken.
-use Rattle.std.proofs.Common.{◌≡◌, ℕ, List, [], ◌∷◌, ◌++◌, true, false, Option, Some, None, ◌+◌, ◌==◌, length, refl, ◌∙◌}
+use Rattle.std.proofs.Common.{◌≡◌, ℕ, List, [], ◌∷◌, ◌++◌, true, false, Some, None, ◌==◌, length, refl, ◌∙◌}
 use Rattle.frame_syntax.specs.Headers.{header_of}
 use Rattle.frame_syntax.specs.Rules.{Rule, first_broken, opening_rules, head_rules, rules_from, picture_rules, frame_rules, is_sized, picture_behind}
 use Rattle.frame_syntax.specs.declared.fault.FrameFault.{FrameFault}

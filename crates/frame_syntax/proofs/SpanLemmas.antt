@@ -1,5 +1,5 @@
 -- Slices that lie one behind the other.
-use Rattle.std.proofs.Common.{◌≡◌, ◌≢◌, ℕ, zero, suc, ◌+◌, ◌-◌, ◌<◌, ◌≤◌, List, [], ◌∷◌, ◌++◌, length, drop, sum, Option, Some, None, refl, sym, ap, subst, ◌∙◌, arith}
+use Rattle.std.proofs.Common.{◌≡◌, ◌≢◌, ℕ, suc, ◌+◌, ◌-◌, ◌<◌, List, [], ◌∷◌, length, drop, sum, Option, Some, None, refl, sym, ap, subst, ◌∙◌, arith}
 use Rattle.std.proofs.lemmas.List.{drop-drop, length-append, length-drop}
 use Rattle.std.proofs.lemmas.List.Sums.{sum_by-cons}
 use Rattle.byteorder.specs.Endian.{big_number}
@@ -8,7 +8,7 @@ use Rattle.frame_syntax.specs.Frames.{IsFrame, slices_of, slices_in, parts_with,
 use Rattle.frame_syntax.specs.Headers.{header_of}
 use Rattle.frame_syntax.specs.Rules.{first_picture}
 use Rattle.frame_syntax.specs.declared.frame.FrameParts.{FrameParts}
-use Rattle.frame_syntax.specs.inner.Runs.{sizes_in_run, spans_in_run, RunFits}
+use Rattle.frame_syntax.specs.inner.Runs.{spans_in_run}
 use Rattle.frame_syntax.specs.declared.frame_head.FrameHead.{FrameHead}
 use Rattle.frame_syntax.specs.declared.picture_head.PictureHead.{PictureHead}
 use Rattle.frame_syntax.specs.declared.frame_slices.SliceRun.{SliceRun}

@@ -1,25 +1,19 @@
 -- A frame that is written is read back.
-use Rattle.std.proofs.Common.{◌≡◌, ◌==◌, ℕ, ◌+◌, ◌-◌, ◌*◌, ◌^◌, ◌<◌, ◌≤◌, List, [], ◌∷◌, ◌++◌, Bool, true, false, All, Some, None, IfSome, length, take, drop, map, sum, refl, sym, ap, ap₂, subst, ◌∙◌, arith, append_assoc, if◌then◌else◌}
+use Rattle.std.proofs.Common.{◌≡◌, ◌==◌, ℕ, ◌+◌, ◌*◌, ◌^◌, ◌<◌, List, [], ◌++◌, Bool, true, false, Some, None, length, take, drop, map, sum, refl, sym, ap, ap₂, subst, ◌∙◌, arith, if◌then◌else◌}
 use Rattle.std.proofs.lemmas.List.{drop_at, drop-drop, append-nil, take-append-drop, length-append, length-take-le, length-drop, map-append}
 use Rattle.std.proofs.lemmas.List.Elements.{All-take, All-drop}
-use Rattle.picture_plane.specs.Slices.{Size, picture_count, slices_per_picture}
-use Rattle.frame_syntax.specs.Headers.{header_of, size_of, loaded_len, least_head}
-use Rattle.frame_syntax.specs.Pictures.{Span, picture_of, spans_of, SlicesFit}
-use Rattle.frame_syntax.specs.Rules.{first_broken, frame_rules, opening_rules, head_rules, rules_from, picture_rules, first_picture, picture_behind, is_sized}
-use Rattle.frame_syntax.specs.Frames.{IsFrame, parts_of, parts_with, parts_behind, second_picture, slices_of, spans_in}
-use Rattle.frame_syntax.specs.Written.{joined, lengths, picture_front, picture_bytes, pictures_bytes, loaded_bytes, format_bytes, head_bytes, matrix_bytes, IsMatrix, frame_front, frame_bytes, IsWritable, AreSlices, Holds, slice_bytes}
+use Rattle.picture_plane.specs.Slices.{Size, slices_per_picture}
+use Rattle.frame_syntax.specs.Headers.{header_of, size_of, loaded_len}
+use Rattle.frame_syntax.specs.Pictures.{spans_of}
+use Rattle.frame_syntax.specs.Rules.{first_broken, frame_rules, opening_rules, head_rules, rules_from, picture_rules, picture_behind, is_sized}
+use Rattle.frame_syntax.specs.Frames.{parts_with, parts_behind, second_picture}
+use Rattle.frame_syntax.specs.Written.{lengths, picture_bytes, pictures_bytes, loaded_bytes, format_bytes, head_bytes, matrix_bytes, IsMatrix, frame_front, frame_bytes, IsWritable, AreSlices, Holds, slice_bytes}
 use Rattle.frame_syntax.specs.declared.frame_head.FrameHead.{FrameHead}
 use Rattle.frame_syntax.specs.declared.picture_head.PictureHead.{PictureHead}
-use Rattle.frame_syntax.specs.declared.frame.FrameParts.{FrameParts}
-use Rattle.frame_syntax.proofs.FrontLemmas.{length-frame_front, length-picture_front}
+use Rattle.frame_syntax.specs.laws.LengthLaws.{length-picture}
 use Rattle.frame_syntax.proofs.RuleLemmas.{only_sized, both_sized, pictures_are}
 use Rattle.frame_syntax.proofs.WrittenHeadLemmas.{FourOf, four_of, frame_with, with_encoder, head_reads, opening_kept, head_kept}
-use Rattle.frame_syntax.proofs.WrittenPictureLemmas.{AreShort, Stands, written_picture, picture_reads, length-joined, length-lengths}
-
--- a coded picture has as many bytes as its header says
-length-picture : (log2 : ℕ) (slices : List (List ℕ)) → length (picture_bytes log2 slices) ≡ 8 + 2 * length (lengths slices) + sum (lengths slices)
-length-picture log2 slices =
-    omega (arith, length-append (picture_front log2 (lengths slices)) (joined slices), length-picture_front log2 (lengths slices), length-joined slices)
+use Rattle.frame_syntax.proofs.WrittenPictureLemmas.{Stands, written_picture, picture_reads}
 
 -- what the bytes of a frame are behind its header
 pub record Behind (bytes : List ℕ) (head : FrameHead) (log2 : ℕ) (slices : List (List ℕ)) : Type 0 where

@@ -1,13 +1,12 @@
 -- A frame header that is written is read back.
-use Rattle.std.proofs.Common.{◌≡◌, ◌≢◌, ◌==◌, ◌&&◌, ◌||◌, ℕ, zero, suc, ◌+◌, ◌*◌, ◌/◌, ◌%◌, ◌^◌, ◌<◌, ◌≤◌, List, [], ◌∷◌, ◌++◌, Bool, true, false, not, None, length, take, drop, replicate, nat_le, refl, sym, ap, ap₂, subst, ◌∙◌, arith, append_assoc, slice_index, if◌then◌else◌, ◌⊎◌, inl, inr}
+use Rattle.std.proofs.Common.{◌≡◌, ◌≢◌, ◌==◌, ◌&&◌, ◌||◌, ℕ, ◌+◌, ◌*◌, ◌/◌, ◌%◌, ◌^◌, ◌<◌, ◌≤◌, List, [], ◌∷◌, ◌++◌, Bool, true, false, not, None, length, take, drop, replicate, nat_le, refl, sym, ap, ap₂, ◌∙◌, arith, append_assoc, if◌then◌else◌, inl, inr}
 use Rattle.std.proofs.lemmas.Bool.{le-leb, eq-eqb, ne_eqb, cases_eq}
-use Rattle.std.proofs.lemmas.List.{take_at, drop_at, drop-drop, length-append}
-use Rattle.std.specs.Str.{bytes_eq}
+use Rattle.std.proofs.lemmas.List.{take_at, drop_at, drop-drop}
 use Rattle.byteorder.specs.Endian.{big_number, big_bytes}
 use Rattle.byteorder.specs.Numbers.{big_number-reads_back}
 use Rattle.frame_syntax.specs.Headers.{header_of, matrix_of, loads_luma, loads_chroma, loaded_len, least_head}
 use Rattle.frame_syntax.specs.Rules.{Rule, first_broken, opening_rules, head_rules}
-use Rattle.frame_syntax.specs.Written.{IsMatrix, IsWritable, loaded_bytes, flag_of, packed_bytes, format_bytes, matrix_bytes, head_bytes, frame_front}
+use Rattle.frame_syntax.specs.Written.{IsMatrix, IsWritable, loaded_bytes, flag_of, format_bytes, matrix_bytes, frame_front}
 use Rattle.frame_syntax.specs.declared.fault.FrameFault.{FrameFault}
 use Rattle.frame_syntax.specs.declared.frame_head.FrameHead.{FrameHead}
 use Rattle.frame_syntax.specs.declared.frame_head.TheConstants.{FRAME_NAME, MATRIX_LEN}

@@ -1,32 +1,20 @@
 -- A coded picture that is written is read back.
-use Rattle.std.proofs.Common.{◌≡◌, ◌&&◌, ℕ, zero, suc, ◌+◌, ◌-◌, ◌*◌, ◌/◌, ◌%◌, ◌^◌, ◌<◌, ◌≤◌, List, [], ◌∷◌, ◌++◌, Bool, true, All, length, take, drop, get_or, map, sum, nat_le, refl, sym, ap, ap₂, subst, ◌∙◌, arith, append_assoc, slice_index}
+use Rattle.std.proofs.Common.{◌≡◌, ℕ, ◌+◌, ◌*◌, ◌/◌, ◌%◌, ◌^◌, ◌<◌, ◌≤◌, List, [], ◌∷◌, ◌++◌, true, All, length, take, drop, get_or, map, sum, refl, sym, ap, ap₂, ◌∙◌, arith, append_assoc, slice_index}
 use Rattle.std.proofs.lemmas.Bool.{le-leb}
-use Rattle.std.proofs.lemmas.List.{drop-drop, drop_at, take_at, get_or-drop, length-append, length-drop, length-map}
+use Rattle.std.proofs.lemmas.List.{drop-drop, drop_at, take_at, get_or-drop, length-append, length-drop}
 use Rattle.std.proofs.lemmas.List.Elements.{All-tail, All-head}
-use Rattle.std.proofs.lemmas.List.Sums.{sum_by-cons}
 use Rattle.byteorder.specs.Endian.{big_number, big_bytes}
 use Rattle.byteorder.specs.Numbers.{big_number-reads_back}
 use Rattle.picture_plane.specs.Slices.{Size, slices_per_picture}
-use Rattle.frame_syntax.specs.Pictures.{Span, picture_of, slice_sizes, sizes_of, spans_from, spans_of, front_len, table_at, slice_room, SlicesFit}
+use Rattle.frame_syntax.specs.Pictures.{picture_of, slice_sizes, spans_from, spans_of, SlicesFit}
 use Rattle.frame_syntax.specs.Rules.{is_sized}
 use Rattle.frame_syntax.specs.Written.{joined, lengths, table_of, picture_front, picture_bytes, slice_bytes}
 use Rattle.frame_syntax.specs.declared.picture_head.PictureHead.{PictureHead}
-use Rattle.frame_syntax.proofs.FrontLemmas.{length-picture_front}
+use Rattle.frame_syntax.specs.laws.LengthLaws.{length-joined, length-lengths, length-picture_front}
 
 -- every slice is short enough for its entry
 abbrev pub AreShort : List (List ℕ) → Type 0
 AreShort slices = All (λ (slice : List ℕ). length slice < 256 ^ 2) slices
-
--- the slices have as many bytes as their lengths say
-pub length-joined : (slices : List (List ℕ)) → length (joined slices) ≡ sum (lengths slices)
-length-joined [] = refl
-length-joined (slice ∷ slices) =
-    let rest = length-joined slices in
-    omega (arith, length-append slice (joined slices), rest, sum_by-cons (λ (n : ℕ). n) (length slice) (lengths slices))
-
-pub length-lengths : (slices : List (List ℕ)) → length (lengths slices) ≡ length slices
-length-lengths [] = refl
-length-lengths (slice ∷ slices) = ap suc (length-lengths slices)
 
 -- a slice table that is written is read
 pub table_reads : (slices : List (List ℕ)) (rest : List ℕ) → AreShort slices → slice_sizes (length slices) (table_of (lengths slices) ++ rest) ≡ lengths slices

@@ -1,5 +1,5 @@
 -- The header of a frame: its fields at their bytes (RDD 36). docs/formats/frames.md, "Frames".
-use Rattle.std.specs.Prelude.{ℕ, ◌+◌, ◌*◌, ◌/◌, ◌%◌, ◌==◌, List, Bool, drop, take, replicate, slice_index, if◌then◌else◌}
+use Rattle.std.specs.Prelude.{ℕ, ◌+◌, ◌/◌, ◌%◌, ◌==◌, List, Bool, drop, take, replicate, slice_index, if◌then◌else◌}
 use Rattle.byteorder.specs.Endian.{big_number}
 use Rattle.picture_plane.specs.Slices.{Size}
 use Rattle.frame_syntax.specs.declared.frame_head.FrameHead.{FrameHead}

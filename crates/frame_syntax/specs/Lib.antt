@@ -6,3 +6,4 @@ pub mod Rules
 pub mod SlicesLeft
 pub mod Written
 pub mod inner
+pub mod laws

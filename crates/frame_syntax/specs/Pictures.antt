@@ -1,5 +1,5 @@
 -- The coded pictures of a frame: header, slice table and slices (RDD 36). docs/formats/frames.md, "Frames".
-use Rattle.std.specs.Prelude.{◌≡◌, ℕ, zero, suc, ◌+◌, ◌-◌, ◌*◌, ◌/◌, ◌%◌, ◌<◌, ◌≤◌, List, [], ◌∷◌, sum, take, drop, get_or, slice_index}
+use Rattle.std.specs.Prelude.{◌≡◌, ℕ, zero, suc, ◌+◌, ◌-◌, ◌*◌, ◌/◌, ◌%◌, ◌<◌, ◌≤◌, List, [], ◌∷◌, sum, take, drop, slice_index}
 use Rattle.byteorder.specs.Endian.{big_number}
 use Rattle.picture_plane.specs.Slices.{Size, slices_per_picture}
 use Rattle.frame_syntax.specs.declared.fault.FrameFault.{FrameFault}

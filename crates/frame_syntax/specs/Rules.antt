@@ -1,6 +1,6 @@
 -- The rules of a frame, each with the refusal of bytes that break it (RDD 36; the ranges are own).
 -- docs/formats/frames.md, "Refusals of frames".
-use Rattle.std.specs.Prelude.{ℕ, ◌+◌, ◌%◌, ◌==◌, ◌&&◌, ◌||◌, List, [], ◌∷◌, ◌++◌, Bool, not, nat_le, Option, Some, None, length, take, drop, if◌then◌else◌}
+use Rattle.std.specs.Prelude.{ℕ, ◌+◌, ◌==◌, ◌&&◌, ◌||◌, List, [], ◌∷◌, ◌++◌, Bool, not, nat_le, Option, Some, None, length, take, drop, if◌then◌else◌}
 use Rattle.std.specs.Str.{bytes_eq}
 use Rattle.byteorder.specs.Endian.{big_number}
 use Rattle.rec_bytes.specs.Configuration.{within, is_even}

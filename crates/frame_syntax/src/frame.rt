@@ -2,6 +2,8 @@
 
 ghost use Rattle.std.specs.Prelude.{◌≡◌, ◌≤◌, ◌+◌, true, length, List, ℕ, IfOk, IfErr, IfSome, Some};
 ghost use Rattle.frame_syntax.specs.declared.frame_head.TheConstants.{HEAD_AT};
+ghost use Rattle.picture_plane.specs.Sizes.{IsSize};
+ghost use Rattle.frame_syntax.specs.Headers.{size_of};
 ghost use Rattle.frame_syntax.specs.Frames.{IsFrame, Refuses, parts_behind, slices_of};
 ghost use Rattle.frame_syntax.specs.declared.fault.FrameFault.{FrameFault};
 ghost use Rattle.frame_syntax.specs.declared.frame.FrameParts.{FrameParts};
@@ -27,8 +29,10 @@ pub struct FrameParts {
 
 /// Reads a frame (SMPTE RDD 36). Nothing is said of what stands in its slices, nor of a frame that loads only one of
 /// the two quantisation matrices, which is read.
+#[tactic(auto, using(crate::specs::laws::FrameLaws::frame_sized))]
 pub fn read_frame(bytes: &[u8]) -> Result<FrameParts, FrameFault>
     ensures read { IfOk result (IsFrame bytes.now) }
+    ensures sized { IfOk result (λ parts. IsSize (size_of parts.head)) }
 
     ensures refused { IfErr result (Refuses bytes.now) }
 {

@@ -25,10 +25,10 @@ mod tests;
 pub use difference::differs;
 pub use fault::FrameFault;
 pub use frame::{FrameParts, read_frame, refusals_are_exact};
-pub use frame_head::FrameHead;
+pub use frame_head::{FrameHead, HEAD_AT, LOADS_AT, MATRIX_LEN};
 pub use frame_slices::FrameSlices;
 pub use front::{
     MACROBLOCK_ROOM, SLICE_ROOM, frame_room, head_of, put_frame_front, put_picture_front,
     written_frames_are_frames,
 };
-pub use picture_head::PictureHead;
+pub use picture_head::{ENTRY_LEN, LEAST_PICTURE_HEAD, PictureHead};

@@ -5,7 +5,7 @@ use Rattle.picture_plane.specs.declared.planes.Plane.{Plane}
 use Rattle.picture_plane.specs.declared.slice_names.Field.{Field}
 use Rattle.picture_plane.specs.declared.slice_names.Field.TheVariants.{Whole, Top, Bottom}
 use Rattle.picture_plane.specs.Blocks.{frame_row, repeated_at}
-use Rattle.picture_plane.specs.Pictures.{columns, row_start, sample_at, IsPicture, Planes}
+use Rattle.picture_plane.specs.Pictures.{columns, row_start, sample_at, sample_count, IsPicture, Planes}
 use Rattle.picture_plane.specs.Slices.{Size, HasField, line_count}
 use Rattle.picture_plane.specs.inner.Lines.{lines_step}
 use Rattle.picture_plane.specs.laws.PictureLaws.{row_room}
@@ -29,10 +29,21 @@ inside_is planes field plane line column k lines wide h =
     ap (λ (i : ℕ). get_or planes.samples i 0) (omega (arith, line_stands size field plane line (k / 8)))
     ∙ sym (ap₂ (λ (l c : ℕ). sample_at planes plane (frame_row field l) c) line_is column_is)
 
+-- the rows of a block inside end before the picture does
+pub rows_room : (size : Size) (field : Field) (plane : Plane) (line column : ℕ) → HasField size.interlace field
+    → line + 8 ≤ line_count size → column + 8 ≤ columns size plane
+    → row_start size plane (frame_row field line) + column + 7 * (lines_step field * columns size plane) + 8 ≤ sample_count size
+rows_room size field plane line column f lines wide =
+    let last = frame_row_below size field (line + 7) f (omega arith) in
+    omega (arith, line_stands size field plane line 7, row_room size plane (frame_row field (line + 7)) last)
+
 pub inside_room : (planes : Planes) (field : Field) (plane : Plane) (line column : ℕ) → IsPicture planes → HasField planes.size.interlace field
     → line + 8 ≤ line_count planes.size → column + 8 ≤ columns planes.size plane
     → row_start planes.size plane (frame_row field line) + column + 7 * (lines_step field * columns planes.size plane) + 8 ≤ length planes.samples
-inside_room planes field plane line column p f lines wide =
-    let size = planes.size in
-    let last = frame_row_below size field (line + 7) f (omega arith) in
-    omega (arith, line_stands size field plane line 7, row_room size plane (frame_row field (line + 7)) last, p.all)
+inside_room planes field plane line column p f lines wide = omega (arith, rows_room planes.size field plane line column f lines wide, p.all)
+
+-- they stand apart
+pub rows_step : (size : Size) (field : Field) (plane : Plane) → 8 ≤ columns size plane → 8 ≤ lines_step field * columns size plane
+rows_step size Whole plane h = omega arith
+rows_step size Top plane h = omega arith
+rows_step size Bottom plane h = omega arith

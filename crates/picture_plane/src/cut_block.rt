@@ -8,7 +8,7 @@ ghost use Rattle.picture_plane.specs.inner.Lines.{IsRow, lines_step};
 
 use crate::picture::Picture;
 use crate::planes::Plane;
-use crate::runs::put_run;
+use crate::runs::{put_eight, put_run};
 use crate::slice_names::Field;
 
 /// Copies the block whose first sample stands at a line and a column of a coded picture; past the last line and column
@@ -73,13 +73,13 @@ fn put_rows(samples: &[u16], start: usize, step: usize, block: &mut [u16; 64])
 {
     for r in 0..8 {
         let at = start + r * step;
-        put_run(block, 8 * r, &samples[at..at + 8]);
+        put_eight(block, 8 * r, &samples[at..at + 8]);
     }
 }
 
 /// Rows of the frame from a line of a coded picture to the next.
 #[inline(always)]
-fn row_step(field: Field) -> usize
+pub(crate) fn row_step(field: Field) -> usize
     ensures value { result ≡ lines_step field }
     ensures most { result ≤ 2 }
 {

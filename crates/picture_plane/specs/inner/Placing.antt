@@ -17,6 +17,12 @@ pub record IsRowPlaced (start wide column : ℕ) (block : List ℕ) (r : ℕ) (o
   pub others : (j : ℕ) → ((x : ℕ) → x < 8 → column + x < wide → j ≢ start + (column + x)) → slice_index new j ≡ slice_index old j
   pub small : (j : ℕ) → slice_index new j < 1024
 
+-- so many rows of a block are put, the first one from a place on, each further one so many samples behind
+pub record AreRowsPlaced (rows start step : ℕ) (block old new : List ℕ) : Type 0 where
+  pub shown : (k : ℕ) → k < 8 * rows → slice_index new (start + k / 8 * step + k % 8) ≡ slice_index block k
+  pub others : (j : ℕ) → ((k : ℕ) → k < 8 * rows → j ≢ start + k / 8 * step + k % 8) → slice_index new j ≡ slice_index old j
+  pub small : (j : ℕ) → slice_index new j < 1024
+
 -- so many places of a block, whose first one stands at a line and a column, are put
 pub record IsBlockPlaced (places : ℕ) (size : Size) (field : Field) (plane : Plane) (line column : ℕ) (block old new : List ℕ) : Type 0 where
   pub shown : (k : ℕ) → k < places → line + k / 8 < line_count size → column + k % 8 < columns size plane

@@ -1,7 +1,7 @@
-use Rattle.std.proofs.Common.{◌≡◌, ℕ, List, length, Result, Ok, Err, Some, None, sym, ap, ◌∙◌, IfOk, IfErr, IfSome, arith}
+use Rattle.std.proofs.Common.{◌≡◌, ℕ, List, length, Result, Ok, Err, None, sym, ap, ◌∙◌, IfOk, IfSome, arith}
 use Rattle.std.proofs.lemmas.Result.{IfErr-weaker}
 use Rattle.frame_syntax.specs.Headers.{header_of}
-use Rattle.frame_syntax.specs.Rules.{first_broken, opening_rules, head_rules, picture_rules, frame_rules}
+use Rattle.frame_syntax.specs.Rules.{first_broken, opening_rules, head_rules, picture_rules}
 use Rattle.frame_syntax.specs.Frames.{parts_behind}
 use Rattle.frame_syntax.specs.inner.Rooms.{AreParts, IsRoomy}
 use Rattle.frame_syntax.specs.declared.fault.FrameFault.{FrameFault}

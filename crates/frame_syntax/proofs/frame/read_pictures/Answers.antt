@@ -1,9 +1,8 @@
-use Rattle.std.proofs.Common.{◌≡◌, ◌+◌, ◌==◌, true, false, length, Some, None, refl, sym, ap, subst, ◌∙◌, arith}
+use Rattle.std.proofs.Common.{◌≡◌, ◌==◌, true, false, length, Some, sym, ap, subst, ◌∙◌}
 use Rattle.std.proofs.lemmas.Bool.{eq-eqb, ne_eqb}
 use Rattle.std.proofs.lemmas.Result.{err_from_is_err_and}
-use Rattle.frame_syntax.specs.Headers.{size_of}
 use Rattle.frame_syntax.specs.Pictures.{picture_of}
-use Rattle.frame_syntax.specs.Rules.{first_broken, rules_from, first_picture, picture_behind, is_sized}
+use Rattle.frame_syntax.specs.Rules.{first_broken, rules_from, first_picture, is_sized}
 use Rattle.frame_syntax.specs.declared.picture_head.PictureHead.{PictureHead}
 use Rattle.frame_syntax.proofs.RuleLemmas.{first_short, only_sized, second_short, both_sized}
 use Rattle.frame_syntax.proofs.frame.read_pictures.Goals as goal

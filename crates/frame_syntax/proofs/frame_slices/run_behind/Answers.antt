@@ -1,4 +1,4 @@
-use Rattle.std.proofs.Common.{◌≡◌, [], Option, None, sym, ap, ◌∙◌, arith}
+use Rattle.std.proofs.Common.{Option, sym, ap, arith}
 use Rattle.frame_syntax.specs.Pictures.{slice_sizes, spans_from}
 use Rattle.frame_syntax.specs.Frames.{spans_in}
 use Rattle.frame_syntax.specs.declared.picture_head.PictureHead.{PictureHead}

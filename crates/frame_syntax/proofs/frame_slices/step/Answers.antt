@@ -1,4 +1,4 @@
-use Rattle.std.proofs.Common.{◌≡◌, ◌+◌, ◌-◌, ◌∷◌, List, ℕ, drop, sum, ap, ◌∙◌, arith}
+use Rattle.std.proofs.Common.{◌+◌, ◌-◌, drop, ap, ◌∙◌, arith}
 use Rattle.frame_syntax.specs.Pictures.{spans_from, slice_sizes}
 use Rattle.frame_syntax.proofs.SpanLemmas.{sizes_next, spans_next, sum_next_size}
 use Rattle.frame_syntax.proofs.frame_slices.step.Goals as goal

@@ -1,10 +1,11 @@
-use Rattle.std.proofs.Common.{◌≡◌, ℕ, List, ◌+◌, ◌++◌, length, length-append, append_assoc, refl, sym, ap, ◌∙◌, arith}
+use Rattle.std.proofs.Common.{◌≡◌, ℕ, List, ◌++◌, length, length-append, refl, ap, ◌∙◌, arith}
 use Rattle.byteorder.specs.Endian.{big_bytes}
 use Rattle.rec_bytes.specs.Places.{with_bytes}
-use Rattle.rec_bytes.specs.laws.Places.{with_bytes-more, length-with_bytes}
-use Rattle.frame_syntax.specs.Written.{identity_bytes, format_bytes, matrix_bytes, frame_front}
+use Rattle.rec_bytes.specs.laws.Places.{with_bytes-more}
+use Rattle.frame_syntax.specs.Written.{identity_bytes, format_bytes, matrix_bytes}
 use Rattle.frame_syntax.specs.declared.frame_head.TheConstants.{FRAME_NAME}
-use Rattle.frame_syntax.proofs.FrontLemmas.{length-frame_front, frame_front-pieces}
+use Rattle.frame_syntax.specs.laws.LengthLaws.{length-frame_front}
+use Rattle.frame_syntax.proofs.FrontLemmas.{frame_front-pieces}
 use Rattle.frame_syntax.proofs.front.put_frame_front.Goals as goal
 
 pub returns-clause-behind : goal.returns-clause-behind

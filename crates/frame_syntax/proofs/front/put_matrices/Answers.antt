@@ -1,4 +1,4 @@
-use Rattle.std.proofs.Common.{◌+◌, length, length-append, arith, sym}
+use Rattle.std.proofs.Common.{length-append, arith}
 use Rattle.rec_bytes.specs.laws.Places.{with_bytes-more}
 use Rattle.frame_syntax.specs.Written.{loaded_bytes}
 use Rattle.frame_syntax.proofs.front.put_matrices.Goals as goal

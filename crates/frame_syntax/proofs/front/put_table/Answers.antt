@@ -1,10 +1,11 @@
-use Rattle.std.proofs.Common.{◌≡◌, ℕ, List, ◌+◌, ◌*◌, length, take, get_or, sym, ap, ◌∙◌, arith}
-use Rattle.std.proofs.lemmas.List.{length-take-le, take_all}
+use Rattle.std.proofs.Common.{◌≡◌, ℕ, List, ◌*◌, length, take, get_or, sym, ap, ◌∙◌, arith}
+use Rattle.std.proofs.lemmas.List.{length-take-le}
 use Rattle.byteorder.specs.Endian.{big_bytes}
 use Rattle.rec_bytes.specs.Places.{with_bytes}
 use Rattle.rec_bytes.specs.laws.Places.{with_bytes-more}
 use Rattle.frame_syntax.specs.Written.{table_of}
-use Rattle.frame_syntax.proofs.TableBytesLemmas.{length-table_of, entry_more}
+use Rattle.frame_syntax.specs.laws.LengthLaws.{length-table_of}
+use Rattle.frame_syntax.proofs.TableBytesLemmas.{entry_more}
 use Rattle.frame_syntax.proofs.front.put_table.Goals as goal
 
 pub entries-preserved : goal.entries-preserved

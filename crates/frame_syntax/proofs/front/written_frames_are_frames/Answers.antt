@@ -1,4 +1,4 @@
-use Rattle.std.proofs.Common.{◌≡◌, ◌+◌, ◌<◌, refl, arith}
+use Rattle.std.proofs.Common.{refl, arith}
 use Rattle.frame_syntax.proofs.WrittenFrameLemmas.{written_holds}
 use Rattle.frame_syntax.proofs.front.written_frames_are_frames.Goals as goal
 

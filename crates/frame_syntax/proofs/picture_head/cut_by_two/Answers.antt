@@ -1,4 +1,4 @@
-use Rattle.std.proofs.Common.{◌%◌, ◌∙◌, arith}
+use Rattle.std.proofs.Common.{◌%◌, arith}
 use Rattle.frame_syntax.proofs.RowLemmas.{row_least, row_more}
 use Rattle.frame_syntax.proofs.picture_head.cut_by_two.Goals as goal
 

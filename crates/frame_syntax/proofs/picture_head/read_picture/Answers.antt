@@ -1,6 +1,5 @@
-use Rattle.std.proofs.Common.{◌≡◌, ◌+◌, length, false, nat_le, refl, ap, ◌∙◌, arith}
+use Rattle.std.proofs.Common.{◌≡◌, ◌+◌, length, false, nat_le, refl, ap, arith}
 use Rattle.std.proofs.lemmas.Bool.{lt-leb}
-use Rattle.frame_syntax.specs.Headers.{size_of}
 use Rattle.frame_syntax.specs.Pictures.{picture_of}
 use Rattle.frame_syntax.specs.declared.picture_head.PictureHead.{PictureHead}
 use Rattle.frame_syntax.proofs.picture_head.read_picture.Goals as goal

@@ -1,4 +1,4 @@
-use Rattle.std.proofs.Common.{◌≡◌, ℕ, ◌%◌, length, sym, ap, ◌∙◌, arith}
+use Rattle.std.proofs.Common.{◌≡◌, ℕ, length, sym, ap, ◌∙◌, arith}
 use Rattle.picture_plane.specs.Slices.{slice_widths}
 use Rattle.frame_syntax.proofs.RowLemmas.{row_least, row_more}
 use Rattle.frame_syntax.proofs.picture_head.slices_in_row.Goals as goal

@@ -1,7 +1,7 @@
-use Rattle.std.proofs.Common.{◌≡◌, ℕ, List, ◌+◌, ◌*◌, ◌<◌, drop, take, sum, length, refl, sym, ap, ◌∙◌, arith}
+use Rattle.std.proofs.Common.{◌≡◌, ℕ, List, ◌*◌, drop, take, sum, refl, sym, ap, ◌∙◌, arith}
 use Rattle.std.proofs.lemmas.List.{drop-drop, take_all}
 use Rattle.byteorder.specs.Endian.{big_number}
-use Rattle.frame_syntax.specs.Pictures.{table_at, sizes_of, slice_sizes}
+use Rattle.frame_syntax.specs.Pictures.{table_at, sizes_of}
 use Rattle.frame_syntax.proofs.TableLemmas.{sum_next, length-slice_sizes}
 use Rattle.frame_syntax.proofs.picture_head.table_fault.Goals as goal
 

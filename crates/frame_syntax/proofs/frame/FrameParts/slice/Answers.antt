@@ -1,4 +1,4 @@
-use Rattle.std.proofs.Common.{◌≡◌, ◌<◌, ◌+◌, ℕ, List, drop, length, subst, sym, ap, ◌∙◌, arith}
+use Rattle.std.proofs.Common.{List, drop, sym, ap, ◌∙◌, arith}
 use Rattle.std.proofs.lemmas.List.{drop-drop}
 use Rattle.frame_syntax.specs.Pictures.{Span}
 use Rattle.frame_syntax.specs.Frames.{slices_of}

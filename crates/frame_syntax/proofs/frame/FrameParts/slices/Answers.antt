@@ -1,4 +1,4 @@
-use Rattle.std.proofs.Common.{List, ◌++◌, length, ap, ap₂}
+use Rattle.std.proofs.Common.{List, ◌++◌, ap, ap₂}
 use Rattle.frame_syntax.specs.Pictures.{Span}
 use Rattle.frame_syntax.specs.SlicesLeft.{slices_left}
 use Rattle.frame_syntax.proofs.RoomLemmas.{frame_roomy}

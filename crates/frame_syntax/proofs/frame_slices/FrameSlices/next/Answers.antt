@@ -1,4 +1,4 @@
-use Rattle.std.proofs.Common.{◌≡◌, List, [], ◌∷◌, ◌++◌, ap, ap₂, sym, ◌∙◌}
+use Rattle.std.proofs.Common.{List, ◌∷◌, ◌++◌, ap, ap₂, sym, ◌∙◌}
 use Rattle.frame_syntax.specs.Pictures.{Span}
 use Rattle.frame_syntax.specs.SlicesLeft.{SlicesLeft}
 use Rattle.frame_syntax.specs.inner.Runs.{spans_in_run}

@@ -1,5 +1,5 @@
-use Rattle.std.proofs.Common.{rules, ◌≡◌, ◌+◌, ◌-◌, ℕ, length, arith, ap, refl, ◌∙◌, List}
-use Rattle.picture_plane.specs.Blocks.{blocks_of, blocks_in, first_block}
+use Rattle.std.proofs.Common.{◌≡◌, ◌+◌, ◌-◌, ℕ, length, arith, ap, refl, ◌∙◌, List}
+use Rattle.picture_plane.specs.Blocks.{blocks_of, blocks_in}
 use Rattle.picture_plane.proofs.PutSteps.{samples_put, others_stay, blocks_most}
 use Rattle.picture_plane.proofs.samples.SliceSamples.put_blocks.Goals as goal
 

@@ -5,8 +5,8 @@ use Rattle.picture_plane.specs.Slices.{line_count}
 use Rattle.picture_plane.specs.Views.{as_size}
 use Rattle.picture_plane.specs.inner.Placing.{IsBlockPlaced, IsRowPlaced}
 use Rattle.picture_plane.proofs.PlaceSteps.{row_more, row_past}
-use Rattle.picture_plane.proofs.place.place_block.Goals as goal
-use Rattle.picture_plane.proofs.place.place_block.Goals.{then-line-r, else-line-r}
+use Rattle.picture_plane.proofs.place.place_edge.Goals as goal
+use Rattle.picture_plane.proofs.place.place_edge.Goals.{then-line-r, else-line-r}
 
 pub loop-r-preserved : goal.loop-r-preserved
 loop-r-preserved c =
