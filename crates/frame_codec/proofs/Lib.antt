@@ -1,0 +1,15 @@
+pub mod RoomLemmas
+pub mod BytesLemmas
+pub mod SlicesLemmas
+pub mod FrameLemmas
+pub mod CodedPictureLemmas
+pub mod DecodingLemmas
+pub mod MeaningLaws
+pub mod FrameSliceLemmas
+pub mod FrameLenLemmas
+pub mod ShortFrameLemmas
+pub mod HeldLemmas
+pub mod CodedFrameLaws
+pub mod GivenBackLaws
+pub mod OneFrameLaws
+pub mod OneRefusalLemmas

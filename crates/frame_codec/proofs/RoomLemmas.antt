@@ -1,0 +1,157 @@
+-- The room of the slices of a coded picture, and of a frame.
+use Rattle.std.proofs.Common.{◌≡◌, ℕ, zero, suc, ◌+◌, ◌*◌, ◌/◌, ◌%◌, ◌^◌, ◌<◌, ◌≤◌, ◌==◌, List, [], ◌∷◌, length, take, get_or, sym, ap, ap₂, ◌∙◌, arith, inl, inr, if◌then◌else◌, Bool, true, false}
+use Rattle.std.specs.Prelude.{sum}
+use Rattle.std.proofs.lemmas.Bool.{cases_lt, cases_eq, ne_eqb, eq-eqb}
+use Rattle.std.proofs.lemmas.List.{take_all}
+use Rattle.std.proofs.lemmas.List.Sums.{sum_by_more_le}
+use Rattle.std.proofs.lemmas.Nat.{mul-le, div-mul-add, mod-mul-add, div_below, mod_below, div-add-mod'}
+use Rattle.rec_bytes.specs.Configuration.{Fields}
+use Rattle.rec_bytes.specs.Ranges.{IsInRange}
+use Rattle.picture_plane.specs.Sizes.{size_of}
+use Rattle.picture_plane.specs.Slices.{macroblocks, row_count, picture_count}
+use Rattle.picture_plane.specs.laws.WidthLaws.{sum-widths, sum-take_next, counts_of_widths, length-widths-le, IsCount}
+use Rattle.frame_syntax.specs.Headers.{least_head}
+use Rattle.frame_syntax.specs.Written.{frame_room_of}
+use Rattle.frame_codec.specs.inner.Writing.{widths_of, slices_of, width_at, width_before, slice_room, slices_room, room_of}
+
+-- macroblocks before a place of rows of these widths
+abbrev before : List ℕ → ℕ → ℕ
+before ws n = n / length ws * sum ws + sum (take (n % length ws) ws)
+
+same_place : (ws : List ℕ) (n q r : ℕ) → n ≡ q * length ws + r → r < length ws → before ws n ≡ q * sum ws + sum (take r ws)
+same_place ws n q r e lt =
+    ap₂ (λ (a b : ℕ). a * sum ws + sum (take b ws))
+    (ap (λ (k : ℕ). k / length ws) e ∙ div-mul-add q (length ws) r lt)
+    (ap (λ (k : ℕ). k % length ws) e ∙ mod-mul-add q (length ws) r lt)
+
+-- those before the next place
+before_next : (ws : List ℕ) (n : ℕ) → 0 < length ws → before ws (n + 1) ≡ before ws n + get_or ws (n % length ws) 0
+before_next ws n some =
+    let q : ℕ = n / length ws in
+    let r : ℕ = n % length ws in
+    let at : r < length ws = mod_below n (length ws) some in
+    let split : q * length ws + r ≡ n = div-add-mod' n (length ws) in
+    let next = sum-take_next ws r at in
+    elim (cases_lt (r + 1) (length ws)) [
+      | inl lt ↦ omega (arith, same_place ws (n + 1) q (r + 1) (omega (arith, split)) lt, next)
+      | inr ge ↦
+          let all : take (r + 1) ws ≡ ws = take_all (r + 1) ws ge in
+          let up : (q + 1) * length ws + 0 ≡ n + 1 = omega (arith, split, at, ge) in
+          omega (arith, same_place ws (n + 1) (q + 1) 0 (sym up) some, next, ap sum all)
+    ]
+
+-- those of all rows
+before_all : (ws : List ℕ) (rows : ℕ) → 0 < length ws → before ws (rows * length ws) ≡ rows * sum ws
+before_all ws rows some = omega (arith, same_place ws (rows * length ws) rows 0 (omega arith) some)
+
+-- a slice has no macroblock past its row
+before_within : (ws : List ℕ) (rows n : ℕ) → 0 < length ws → n < rows * length ws → before ws n + get_or ws (n % length ws) 0 ≤ rows * sum ws
+before_within ws rows n some lt =
+    let at : n % length ws < length ws = mod_below n (length ws) some in
+    let below : n / length ws < rows = div_below n (length ws) rows some lt in
+    omega (arith, sum_by_more_le (λ (x : ℕ). x) ws (n % length ws) 0 at, mul-le (n / length ws + 1) (sum ws) rows (sum ws) (omega (arith, below)) (omega arith))
+
+-- where a coded picture has slices, a row has
+some_in_row : (rows long n : ℕ) → n < rows * long → 0 < long
+some_in_row rows zero n lt = absurd (omega (arith, lt))
+some_in_row rows (suc long) n lt = omega arith
+
+row_has_some : (fields : Fields) (n : ℕ) → n < slices_of fields → 0 < length (widths_of fields)
+row_has_some fields n lt = some_in_row (row_count (size_of fields)) (length (widths_of fields)) n lt
+
+before_is : (fields : Fields) (n : ℕ) → width_before fields n ≡ before (widths_of fields) n
+before_is fields n =
+    let ws = widths_of fields in
+    ap (λ (m : ℕ). n / length ws * m + sum (take (n % length ws) ws)) (sym (sum-widths fields.log2 (macroblocks fields.width)))
+
+-- the room of the slices before the next one
+pub room_next : (fields : Fields) (n : ℕ) → n < slices_of fields → slices_room fields (n + 1) ≡ slices_room fields n + slice_room fields n
+room_next fields n lt =
+    omega (arith, before_is fields n, before_is fields (n + 1), before_next (widths_of fields) n (row_has_some fields n lt))
+
+-- all slices of a coded picture have room for each of them
+pub room_within : (fields : Fields) (n : ℕ) → n < slices_of fields → slices_room fields n + slice_room fields n ≤ slices_room fields (slices_of fields)
+room_within fields n lt =
+    let ws = widths_of fields in
+    let rows = row_count (size_of fields) in
+    let some = row_has_some fields n lt in
+    omega (arith, lt, before_is fields n, before_is fields (slices_of fields), before_all ws rows some, before_within ws rows n some lt)
+
+count_most : (n : ℕ) → IsCount n → n ≤ 8
+count_most n (inl one) = omega arith
+count_most n (inr (inl two)) = omega arith
+count_most n (inr (inr (inl four))) = omega arith
+count_most n (inr (inr (inr eight))) = omega arith
+
+-- a slice's length fits the slice table
+pub slice_room_small : (fields : Fields) (n : ℕ) → fields.log2 ≤ 3 → n < slices_of fields → slice_room fields n ≤ 32776
+slice_room_small fields n small lt =
+    let at : n % length (widths_of fields) < length (widths_of fields) = mod_below n (length (widths_of fields)) (row_has_some fields n lt) in
+    omega (arith, count_most (width_at fields n) (counts_of_widths fields.log2 (macroblocks fields.width) (n % length (widths_of fields)) small at))
+
+-- where there are macroblocks, a row has slices
+some_width : (ws : List ℕ) → 0 < sum ws → 0 < length ws
+some_width [] lt = absurd (omega (arith, lt))
+some_width (w ∷ ws) lt = omega arith
+
+-- the room of all slices of a coded picture
+pub room_all : (fields : Fields) → IsInRange fields
+    → slices_room fields (slices_of fields) ≡ 8 * slices_of fields + 4096 * (row_count (size_of fields) * macroblocks fields.width)
+room_all fields r =
+    let ws = widths_of fields in
+    let rows = row_count (size_of fields) in
+    let least = r.width.least in
+    let across = sum-widths fields.log2 (macroblocks fields.width) in
+    let some : 0 < length ws = some_width ws (omega (arith, across, least)) in
+    omega (arith, before_is fields (slices_of fields), before_all ws rows some, ap (λ (m : ℕ). rows * m) across)
+
+-- a coded picture has at most so many slices and macroblocks
+pub record IsSmall (fields : Fields) (rows : ℕ) : Type 0 where
+  pub slices : slices_of fields ≤ rows * 256
+  pub macroblocks_most : row_count (size_of fields) * macroblocks fields.width ≤ rows * 256
+
+small_by_rows : (fields : Fields) (rows : ℕ) → IsInRange fields → row_count (size_of fields) ≤ rows → IsSmall fields rows
+small_by_rows fields rows r few =
+    let narrow = r.width.most in
+    let row : macroblocks fields.width ≤ 256 = omega (arith, narrow) in
+    let short = length-widths-le fields.log2 (macroblocks fields.width) in
+    record {
+      slices = mul-le (row_count (size_of fields)) (length (widths_of fields)) rows 256 few (omega (arith, row, short));
+      macroblocks_most = mul-le (row_count (size_of fields)) (macroblocks fields.width) rows 256 few row;
+    }
+
+-- a whole frame has at most 144 rows of macroblocks
+whole_small : (fields : Fields) → IsInRange fields → fields.interlace ≡ 0 → IsSmall fields 144
+whole_small fields r one = small_by_rows fields 144 r (rw (eq-eqb fields.interlace 0 one) (let most = r.height.most in omega (arith, most)))
+
+-- and a field half of that
+field_small : (fields : Fields) → IsInRange fields → (fields.interlace ≡ 0 → ⊥) → IsSmall fields 72
+field_small fields r two = small_by_rows fields 72 r (rw (ne_eqb fields.interlace 0 two) (let most = r.height.most in omega (arith, most)))
+
+-- a coded picture is small
+pub picture_small : (fields : Fields) → IsInRange fields → IsSmall fields 144
+picture_small fields r = elim (cases_eq fields.interlace 0) [
+  | inl one ↦ whole_small fields r one
+  | inr two ↦
+      let half = field_small fields r two in
+      record { slices = omega (arith, half.slices); macroblocks_most = omega (arith, half.macroblocks_most) }
+]
+
+head_small : (loaded : Bool) → least_head loaded loaded ≤ 148
+head_small true = omega arith
+head_small false = omega arith
+
+-- the longest frame is short
+pub frame_room_small : (fields : Fields) → IsInRange fields → frame_room_of fields ≤ 2 ^ 28
+frame_room_small fields r =
+    let head = head_small (fields.weights == 1) in
+    elim (cases_eq fields.interlace 0) [
+      | inl one ↦
+          let small = whole_small fields r one in
+          let room : picture_count (size_of fields) * room_of fields ≡ 1 * room_of fields = ap (λ (b : Bool). (if b then 1 else 2) * room_of fields) (eq-eqb fields.interlace 0 one) in
+          omega (arith, small.slices, small.macroblocks_most, head, room)
+      | inr two ↦
+          let small = field_small fields r two in
+          let room : picture_count (size_of fields) * room_of fields ≡ 2 * room_of fields = ap (λ (b : Bool). (if b then 1 else 2) * room_of fields) (ne_eqb fields.interlace 0 two) in
+          omega (arith, small.slices, small.macroblocks_most, head, room)
+    ]

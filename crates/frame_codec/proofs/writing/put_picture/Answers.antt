@@ -1,0 +1,79 @@
+use Rattle.std.proofs.Common.{◌≡◌, ◌+◌, ◌*◌, length, take, ℕ, List, sym, ap, ap₂, subst, ◌∙◌, arith}
+use Rattle.std.specs.Prelude.{sum}
+use Rattle.std.proofs.lemmas.List.{take_all}
+use Rattle.rec_bytes.specs.Configuration.{Fields}
+use Rattle.rec_bytes.specs.Ranges.{IsInRange}
+use Rattle.rec_bytes.specs.Places.{with_bytes}
+use Rattle.frame_syntax.specs.Written.{joined, lengths, picture_front}
+use Rattle.frame_syntax.specs.laws.LengthLaws.{length-joined, length-picture_front}
+use Rattle.slice_codec.specs.declared.coding.Coding.{Coding}
+use Rattle.frame_codec.specs.inner.Writing.{fields_of, slices_of, slices_room, room_of, AreFirstSlices}
+use Rattle.frame_codec.proofs.RoomLemmas.{picture_small, room_all}
+use Rattle.frame_codec.proofs.BytesLemmas.{end_of, put_before}
+use Rattle.frame_codec.proofs.writing.put_picture.Goals as goal
+
+-- the slices of a coded picture end inside its room
+slices_within : (fields : Fields) (at count : ℕ) → IsInRange fields → count ≡ slices_of fields → at + 8 + 2 * count + slices_room fields count ≡ at + room_of fields
+slices_within fields at count r same = omega (arith, ap (λ (n : ℕ). slices_room fields n) same, same, room_all fields r)
+
+-- their sizes are those of the slice table
+all_listed : (count : ℕ) (sizes : List ℕ) (slices : List (List ℕ)) → length sizes ≡ count → take count sizes ≡ lengths slices → sizes ≡ lengths slices
+all_listed count sizes slices many listed = sym (take_all count sizes (omega (arith, many))) ∙ listed
+
+pub put_slices-end-requires-clause-room : goal.put_slices-end-requires-clause-room
+put_slices-end-requires-clause-room c =
+    omega (arith, c.requires.room, slices_within (fields_of c.args.writer.now) c.args.at (length c.args.sizes.now) c.ranges-2.ensures c.requires.sized)
+
+pub put_picture_front-requires-clause-few : goal.put_picture_front-requires-clause-few
+put_picture_front-requires-clause-few c =
+    let small = picture_small (fields_of c.args.writer.now) c.ranges-2.ensures in
+    omega (arith, small.slices, c.requires.sized, c.put_slices-end.auto.sizes)
+
+pub put_picture_front-requires-clause-sized : goal.put_picture_front-requires-clause-sized
+put_picture_front-requires-clause-sized c =
+    let fields = fields_of c.args.writer.now in
+    let put = c.put_slices-end.ensures.put in
+    let count : ℕ = length c.args.sizes.now in
+    let start : ℕ = c.args.at + 8 + 2 * count in
+    let many = c.put_slices-end.auto.sizes in
+    let room = slices_within fields c.args.at count c.ranges-2.ensures c.requires.sized in
+    let small = picture_small fields c.ranges-2.ensures in
+    let ends = end_of c.args.out.now c.put_slices-end.new.out start c.put_slices-end.result (joined put.slices) (omega (arith, c.requires.room, room))
+    (omega (arith, c.put_slices-end.ensures.most, c.requires.room, room, c.put_slices-end.auto.out)) put.put in
+    omega (
+      arith,
+      small.slices,
+      small.macroblocks_most,
+      room,
+      ends,
+      many,
+      c.put_slices-end.ensures.most,
+      c.requires.sized,
+      ap sum (all_listed count c.put_slices-end.new.sizes put.slices many put.listed),
+      length-joined put.slices,
+    )
+
+pub returns-clause-put : goal.returns-clause-put
+returns-clause-put c =
+    let fields = fields_of c.args.writer.now in
+    let put = c.put_slices-end.ensures.put in
+    let count : ℕ = length c.args.sizes.now in
+    let start : ℕ = c.args.at + 8 + 2 * count in
+    let many = c.put_slices-end.auto.sizes in
+    let new : List ℕ = c.put_slices-end.new.out in
+    let front : List ℕ = picture_front fields.log2 (lengths put.slices) in
+    let listed = all_listed count c.put_slices-end.new.sizes put.slices many put.listed in
+    let room = slices_within fields c.args.at count c.ranges-2.ensures c.requires.sized in
+    let same = ap₂ (λ (k : Coding) (xs : List ℕ). with_bytes new c.args.at (picture_front k.config.log2 xs)) c.put_slices-end.ensures.kept listed in
+    let begins : start ≡ c.args.at + length front = omega (arith, length-picture_front fields.log2 (lengths put.slices), ap (length {A = ℕ}) listed, many) in
+    record {
+      slices = put.slices;
+      coded = subst (λ (n : ℕ). AreFirstSlices fields c.args.picture.now c.args.number n put.slices) c.requires.sized put.coded;
+      put = ap (take c.put_slices-end.result) (c.put_picture_front.ensures.written ∙ same)
+          ∙ put_before c.args.out.now new c.args.at start c.put_slices-end.result front (joined put.slices) begins (omega (arith, c.requires.room, room))
+          (omega (arith, c.put_slices-end.ensures.most, c.requires.room, room, c.put_slices-end.auto.out)) put.put;
+    }
+
+pub returns-clause-most : goal.returns-clause-most
+returns-clause-most c =
+    omega (arith, c.put_slices-end.ensures.most, slices_within (fields_of c.args.writer.now) c.args.at (length c.args.sizes.now) c.ranges-2.ensures c.requires.sized)

@@ -1,0 +1,3 @@
+pub mod Rooms
+pub mod Writing
+pub mod Decoding
