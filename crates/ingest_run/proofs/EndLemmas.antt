@@ -19,7 +19,7 @@ use Rattle.run_parts.specs.Units.{RefusesUnit}
 use Rattle.run_parts.specs.Statuses.{feed_answer, ending_answer, unit_answer, end_answer, sink_answer}
 use Rattle.run_parts.specs.declared.unit.UnitFault.{UnitFault}
 use Rattle.ingest_run.proofs.UnitLemmas.{unit_code}
-use Rattle.ingest_run.specs.inner.Steps.{StaysSilent, HasEndCause}
+use Rattle.ingest_run.specs.inner.Steps.{StaysSilent, HasEndCause, HasPictureCauses}
 
 -- what isn't told before isn't told after, where something holds of what is told
 pub silent_so : (told now : Option Told) (P : Told → Type 0) → IfTold told now P → StaysSilent told now
@@ -115,3 +115,18 @@ causes_unit before now config bytes unit fault s k ranges few size refused =
         sink_kept = λ seven. k;
       };
     }
+
+-- the causes of an answer of `encode` where the feed's end was read, and nothing of the sink failed
+pub pictures_end : (before now : Counts) (status : Status) → HasEndCause before.source now.source status → now.sink ≡ before.sink → HasPictureCauses before now status
+pictures_end before now status c k = record { answered = inl c.answered; devices = (causes_end before now status c k).devices }
+
+-- for writing that stopped, before the feed's end was read
+pub pictures_put : (T : Type 0) (before now : Counts) (fault : PutFault) → now.source ≡ before.source → HasPutCause {T = T} before.sink now.sink (Err fault)
+    → HasPictureCauses before now (end_answer now.sink (Err fault))
+pictures_put T before now NoMemory s k = record { answered = inl (0, Broken Memory, tt, refl); devices = (causes_put T before now NoMemory s k).devices }
+pictures_put T before now Sink s rose = record { answered = inr refl; devices = (causes_put T before now Sink s rose).devices }
+
+-- and where the sink failed in the tail
+pub pictures_tail : (before now : Counts) (status : Status) → HasEndCause before.source now.source status → Rose before.sink now.sink
+    → HasPictureCauses before now (sink_answer now.sink)
+pictures_tail before now status c rose = record { answered = inr refl; devices = (causes_tail before now status c rose).devices }

@@ -93,12 +93,10 @@ reports-piece before now (Err e) piece w c =
     let v = Gains-first_front before.written now.written e piece w in
     record { written = v.0; missing = v.1; front = v.2; gains = v.3; whole = λ some. c.failed; kept = inr v.4 }
 
--- of two pieces the first was said, and the second as far as the sink took it
-pub reports_both : (E : Type 0) (before mid now : Taken) (r : Result (Unit {0}) E) (first second : List ℕ)
-    → Writes {E = E} before.written mid.written (Ok tt) first → mid.faults ≡ before.faults
-    → Writes mid.written now.written r second → HasCause mid.faults now.faults r → Reports (first ++ second) before now
-reports_both E before mid now r first second w kept v c =
-    let s = reports-piece mid now r second v c in
+-- a piece was said, and what follows it as far as the sink took it
+pub reports_after : (E : Type 0) (before mid now : Taken) (first rest : List ℕ)
+    → Writes {E = E} before.written mid.written (Ok tt) first → mid.faults ≡ before.faults → Reports rest mid now → Reports (first ++ rest) before now
+reports_after E before mid now first rest w kept s =
     let gained = Gains-first E before.written mid.written first w in
     record {
       written = first ++ s.written;
@@ -108,6 +106,12 @@ reports_both E before mid now r first second w kept v c =
       whole = λ some. subst (λ (n : ℕ). Rose n now.faults) kept (s.whole some);
       kept = ⊎_elim (λ e. inl (e ∙ kept)) (λ l. inr (Lacks-behind before.written mid.written first s.missing gained l)) s.kept;
     }
+
+-- of two pieces the first was said, and the second as far as the sink took it
+pub reports_both : (E : Type 0) (before mid now : Taken) (r : Result (Unit {0}) E) (first second : List ℕ)
+    → Writes {E = E} before.written mid.written (Ok tt) first → mid.faults ≡ before.faults
+    → Writes mid.written now.written r second → HasCause mid.faults now.faults r → Reports (first ++ second) before now
+reports_both E before mid now r first second w kept v c = reports_after E before mid now first second w kept (reports-piece mid now r second v c)
 
 -- the sink failed in the first of two pieces
 pub reports_first : {E : Type 0} (before now : Taken) (e : E) (first second : List ℕ) → Writes before.written now.written (Err e) first

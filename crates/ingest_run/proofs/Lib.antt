@@ -2,8 +2,12 @@ pub mod CommandLemmas
 pub mod EndLemmas
 pub mod ExitLemmas
 pub mod GainLemmas
+pub mod EncodeLemmas
 pub mod MessageLemmas
 pub mod ProgramLemmas
+pub mod RefusedLemmas
 pub mod RunLemmas
 pub mod WordsLemmas
 pub mod UnitLemmas
+pub mod WrapLemmas
+pub mod ZipLemmas

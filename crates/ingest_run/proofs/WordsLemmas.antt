@@ -1,10 +1,13 @@
 -- When the words call a command.
-use Rattle.std.proofs.Common.{◌≡◌, ◌≢◌, ◌&&◌, ◌==◌, Bool, true, false, List, [], ◌∷◌, Some, None, length, String, string_bytes, slice_get, refl, sym, ap, ap₂, ◌∙◌, arith}
+use Rattle.std.proofs.Common.{◌≡◌, ◌≢◌, ◌&&◌, ◌==◌, Bool, true, false, ℕ, List, [], ◌∷◌, Some, None, Result, Ok, Err, IfOk, OnOk, length, codes, String, string_bytes, slice_get, refl, sym, ap, ap₂, ◌∙◌, arith}
 use Rattle.std.specs.Str.{bytes_eq}
 use Rattle.std.proofs.lemmas.Bool.{ne_eqb}
 use Rattle.std.proofs.lemmas.Slice.Eq.{bytes_eq-Decides}
 use Rattle.clap.specs.Words.{App, Kinds, fault_of}
-use Rattle.ingest_run.specs.Words.{is_call, texts}
+use Rattle.ingest_run.specs.Words.{command_of, encode, is_call, texts, wrap}
+use Rattle.ingest_run.specs.declared.words.Command.{Command}
+use Rattle.ingest_run.specs.declared.words.Command.TheVariants.{Wrap, Encode}
+use Rattle.ingest_run.specs.declared.words.WordsFault.{WordsFault}
 
 -- a test that doesn't hold is false
 denied : (b : Bool) → (b ≡ true → ⊥) → b ≡ false
@@ -50,3 +53,26 @@ is_call_taken app (word ∷ rest) first h e none =
     let same : word ≡ first = cc in
     let named = (bytes_eq-Decides (string_bytes word) app.top.name).1 (ap string_bytes same ∙ e) in
     ap₂ (λ a b. a && b) named (ap (λ (kinds : Kinds). length kinds == 0) none)
+
+-- the names of the commands differ
+pub names_differ : codes "wrap" ≢ codes "encode"
+names_differ e =
+    let n : ◌≡◌ {A = ℕ} 4 6 = ap (length {A = ℕ}) e in
+    omega arith
+
+-- words that neither command takes are none
+pub none_taken : {Z : Type 0} (words : List (String Z)) → is_call wrap (texts words) ≡ false → is_call encode (texts words) ≡ false → command_of (texts words) ≡ None
+none_taken words w e = rw (w, e) refl
+
+-- those that `wrap` takes
+pub wrap_taken : {Z : Type 0} (words : List (String Z)) (first : String Z) (read : Result Command WordsFault) → slice_get words 0 ≡ Some first → string_bytes first ≡ codes "wrap"
+    → IfOk read (λ command. command ≡ Wrap) → OnOk read (fault_of wrap (texts words) ≡ []) → IfOk read (λ command. command_of (texts words) ≡ Some command)
+wrap_taken words first (Ok command) at named is none = rw (is_call_taken wrap words first at named none) (ap Some (sym is))
+wrap_taken words first (Err _) at named is none = tt
+
+-- and those that `encode` takes
+pub encode_taken : {Z : Type 0} (words : List (String Z)) (first : String Z) (read : Result Command WordsFault) → slice_get words 0 ≡ Some first → string_bytes first ≡ codes "encode"
+    → IfOk read (λ command. command ≡ Encode) → OnOk read (fault_of encode (texts words) ≡ []) → IfOk read (λ command. command_of (texts words) ≡ Some command)
+encode_taken words first (Ok command) at named is none =
+    rw (is_call_other wrap words first at (λ e. names_differ (sym e ∙ named)), is_call_taken encode words first at named none) (ap Some (sym is))
+encode_taken words first (Err _) at named is none = tt

@@ -2,7 +2,7 @@
 use Rattle.std.specs.Prelude.{◌&&◌, ◌||◌, ℕ, Bool, List, [], ◌∷◌, Option, Some, None, false, codes, if◌then◌else◌}
 use Rattle.std.specs.Str.{bytes_eq}
 use Rattle.clap.specs.Walk.{Text}
-use Rattle.ingest_run.specs.declared.help.TheConstants.{SERVER, WRAP, VERSION}
+use Rattle.ingest_run.specs.declared.help.TheConstants.{SERVER, WRAP, ENCODE, VERSION}
 
 -- a word that asks for help
 abbrev pub is_help : Text → Bool
@@ -20,4 +20,5 @@ help_of (first ∷ rest) =
     if is_help first || bytes_eq first (codes "help") then Some SERVER.now
     else if bytes_eq first (codes "--version") then Some VERSION.now
     else if bytes_eq first (codes "wrap") && are_help rest then Some WRAP.now
+    else if bytes_eq first (codes "encode") && are_help rest then Some ENCODE.now
     else None

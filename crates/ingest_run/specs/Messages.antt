@@ -1,5 +1,5 @@
 -- What a program writes to its messages (own). docs/FORMATS.md, "Statuses".
-use Rattle.std.specs.Prelude.{◌≡◌, ◌≢◌, ◌==◌, ◌⊎◌, ℕ, List, [], ◌++◌, Option, codes, decimal, if◌then◌else◌}
+use Rattle.std.specs.Prelude.{◌≡◌, ◌≢◌, ◌==◌, ◌⊎◌, ℕ, List, [], ◌++◌, All, Option, codes, decimal, if◌then◌else◌}
 use Rattle.rec_bytes.specs.Faults.{Rose}
 use Rattle.rec_bytes.specs.declared.status.Status.{Status}
 use Rattle.ingest_run.specs.declared.help.TheConstants.{USAGE}
@@ -11,10 +11,18 @@ fault_line status =
     codes "ingest_server: status " ++ decimal status.code ++ codes " refusal " ++ decimal status.number
     ++ codes " at " ++ decimal status.at ++ codes " other " ++ decimal status.other ++ codes "\n"
 
--- the messages of an answer: none where all was done, and how the program is called where the words are no command
-abbrev pub messages_of : Status → List ℕ
-messages_of status =
-    if status.code == 0 then [] else if status.code == 2 then fault_line status ++ USAGE.now else fault_line status
+-- what stands behind the sentence: the end of its line, and how the program is called where the words are no command
+abbrev pub closing : Status → List ℕ
+closing status = if status.code == 2 then USAGE.now else codes "\n"
+
+-- the messages of an answer, with a sentence that says it to a person: none where all was done
+abbrev pub messages_of : Status → List ℕ → List ℕ
+messages_of status sentence =
+    if status.code == 0 then [] else (fault_line status ++ codes "ingest_server: ") ++ (sentence ++ closing status)
+
+-- no line feed stands in a text
+abbrev pub IsOneLine : List ℕ → Type 0
+IsOneLine text = All (λ byte. byte ≢ 10) text
 
 -- a sink: what was written, where it tells that, and how often it has failed
 pub record Taken : Type 0 where
@@ -33,3 +41,9 @@ pub record Reports (bytes : List ℕ) (before now : Taken) : Type 0 where
   pub gains : Gains before.written now.written written
   pub whole : missing ≢ [] → Rose before.faults now.faults
   pub kept : (now.faults ≡ before.faults) ⊎ Lacks before.written missing
+
+-- an answer was said: its fault line, and a sentence in a line of its own
+pub record SaysAnswer (status : Status) (before now : Taken) : Type 0 where
+  pub sentence : List ℕ
+  pub one_line : IsOneLine sentence
+  pub said : Reports (messages_of status sentence) before now

@@ -9,8 +9,9 @@ use Rattle.ingest_run.specs.declared.words.WordsFault.{WordsFault}
 use Rattle.ingest_run.specs.declared.words.WordsFault.TheVariants.{Memory, Faulty}
 use Rattle.ingest_run.specs.Causes.{HasCauses}
 use Rattle.ingest_run.specs.Helps.{help_of}
-use Rattle.ingest_run.specs.Messages.{Taken, Reports, messages_of}
-use Rattle.ingest_run.specs.Runs.{Outside, Gains, Lacks, Runs, Says, Paces}
+use Rattle.ingest_run.specs.Messages.{Taken, SaysAnswer}
+use Rattle.ingest_run.specs.Paces.{Paces}
+use Rattle.ingest_run.specs.Runs.{Outside, Gains, Lacks, Runs, Says}
 use Rattle.ingest_run.specs.Words.{command_of}
 
 -- nothing was read and nothing was written
@@ -63,4 +64,4 @@ pub record EndsProgram (Answered : Status → Type 0) (before now : Taken) (code
   pub status : Status
   pub answered : Answered status
   pub code_is : code ≡ status.code
-  pub said : Reports (messages_of status) before now
+  pub said : SaysAnswer status before now

@@ -1,22 +1,24 @@
 -- What a run writes and answers for the words and the feed's bytes (own). docs/ARCHITECTURE.md, "The run".
 use Rattle.std.specs.Prelude.{◌≡◌, ◌≢◌, ◌⊎◌, ℕ, List, [], ◌∷◌, ◌++◌, length, take, All, Option, Some, None}
+use Rattle.std.specs.List.{AllZip}
 use Rattle.clap.specs.Walk.{Text}
 use Rattle.rec_bytes.specs.Configuration.{Fields}
 use Rattle.rec_bytes.specs.declared.status.Status.{Status}
-use Rattle.raw_feed.specs.declared.head.TheConstants.{FEED_HEAD_LEN}
-use Rattle.raw_feed.specs.declared.kind.Kind.TheVariants.{Units}
+use Rattle.picture_plane.specs.Pictures.{Planes}
+use Rattle.raw_feed.specs.declared.kind.Kind.{Kind}
+use Rattle.raw_feed.specs.declared.kind.Kind.TheVariants.{Units, Pictures}
 use Rattle.raw_feed.specs.Told.{Told, after}
 use Rattle.raw_feed.specs.Items.{Ending, Clean}
-use Rattle.raw_feed.specs.Breaks.{judged_to}
 use Rattle.raw_feed.specs.Feeds.{IsFeedOf, EndsInHead}
-use Rattle.raw_feed.specs.HasRead.{behind_units}
+use Rattle.raw_feed.specs.Pictures.{IsPictureFeed}
 use Rattle.raw_feed.specs.Reading.{IfTold}
+use Rattle.frame_codec.specs.Coded.{IsCodedFrame}
 use Rattle.run_parts.specs.Causes.{Counts}
 use Rattle.run_parts.specs.Statuses.{ending_answer, unit_answer, words_answer}
 use Rattle.run_parts.specs.Units.{IsRead, RefusesUnit}
 use Rattle.run_parts.specs.declared.unit.UnitFault.{UnitFault}
 use Rattle.ingest_run.specs.declared.words.Command.{Command}
-use Rattle.ingest_run.specs.declared.words.Command.TheVariants.{Wrap}
+use Rattle.ingest_run.specs.declared.words.Command.TheVariants.{Wrap, Encode}
 use Rattle.ingest_run.specs.Words.{command_of}
 
 -- the feed begins with this configuration and these units, whatever follows them
@@ -49,45 +51,41 @@ pub record RefusesAUnit (closed : Fields → List (List ℕ) → List ℕ) (byte
   pub answered : status ≡ unit_answer (length units) fault
 
 -- the feed ends in its head: nothing is written, and the answer is its refusal's
-pub record RefusesHead (bytes written : List ℕ) (status : Status) : Type 0 where
+pub record RefusesHead (kind : Kind) (bytes written : List ℕ) (status : Status) : Type 0 where
   pub ending : Ending
-  pub feed : EndsInHead Units bytes ending
+  pub feed : EndsInHead kind bytes ending
   pub nothing : written ≡ []
   pub answered : status ≡ ending_answer 0 ending
 
 -- what `wrap` writes and answers, by the closed files of its layout
 abbrev pub Wraps : (Fields → List (List ℕ) → List ℕ) → List ℕ → List ℕ → Status → Type 0
 Wraps closed bytes written status =
-    (WrapsUnits closed bytes written status ⊎ RefusesAUnit closed bytes written status) ⊎ RefusesHead bytes written status
+    (WrapsUnits closed bytes written status ⊎ RefusesAUnit closed bytes written status) ⊎ RefusesHead Units bytes written status
 
--- The pace of `wrap`, by the growing files of its layout: no byte is read behind the last one that judges how those read
--- end, once a unit was read all units before it have been written, and once a byte behind it was read it has been, too.
-pub record KeepsPace (growing : Fields → List (List ℕ) → List ℕ) (given written : List ℕ) : Type 0 where
-  pub head_judged : (ending : Ending) → EndsInHead Units given ending → length given ≡ judged_to FEED_HEAD_LEN ending
-  pub judged : (config : Fields) (units : List (List ℕ)) (ending : Ending) → IsFeedOf Units given config units ending
-      → length given ≡ judged_to (behind_units Units units) ending
-  pub prompt : (config : Fields) (units : List (List ℕ)) (unit : List ℕ) (ending : Ending)
-      → IsFeedOf Units given config (units ++ unit ∷ []) ending → (rest : List ℕ) × (written ≡ growing config units ++ rest)
-  pub ahead : (config : Fields) (units : List (List ℕ)) (ending : Ending)
-      → IsFeedOf Units given config units ending → ending ≢ Clean → (rest : List ℕ) × (written ≡ growing config units ++ rest)
+-- the closed file of the frames of the pictures before the feed's end or first break is written, and the answer is as it ends
+pub record EncodesPictures (closed : Fields → List (List ℕ) → List ℕ) (bytes written : List ℕ) (status : Status) : Type 0 where
+  pub config : Fields
+  pub pictures : List Planes
+  pub frames : List (List ℕ)
+  pub ending : Ending
+  pub feed : IsPictureFeed bytes config pictures ending
+  pub coded : AllZip (IsCodedFrame config) pictures frames
+  pub file : written ≡ closed config frames
+  pub answered : status ≡ ending_answer (length pictures) ending
+
+-- what `encode` writes and answers, by the closed files of its layout
+abbrev pub Encodes : (Fields → List (List ℕ) → List ℕ) → List ℕ → List ℕ → Status → Type 0
+Encodes closed bytes written status = EncodesPictures closed bytes written status ⊎ RefusesHead Pictures bytes written status
 
 -- what a command writes and answers; words that are no command write nothing
 abbrev pub SaysFor : (Fields → List (List ℕ) → List ℕ) → Option Command → List ℕ → List ℕ → Status → Type 0
 SaysFor closed None bytes written status = (written ≡ []) × (status ≡ words_answer)
 SaysFor closed (Some Wrap) bytes written status = Wraps closed bytes written status
+SaysFor closed (Some Encode) bytes written status = Encodes closed bytes written status
 
 -- what a run writes and answers where no memory is wanted and nothing fails
 abbrev pub Says : (Fields → List (List ℕ) → List ℕ) → List Text → List ℕ → List ℕ → Status → Type 0
 Says closed words = SaysFor closed (command_of words)
-
--- the pace of a command; for words that are no command nothing is read
-abbrev pub PacesFor : (Fields → List (List ℕ) → List ℕ) → Option Command → List ℕ → List ℕ → Type 0
-PacesFor growing None given written = given ≡ []
-PacesFor growing (Some Wrap) given written = KeepsPace growing given written
-
--- the pace of a run, whatever becomes of it
-abbrev pub Paces : (Fields → List (List ℕ) → List ℕ) → List Text → List ℕ → List ℕ → Type 0
-Paces growing words = PacesFor growing (command_of words)
 
 -- a sink that tells has these bytes more
 abbrev pub Gains : Option (List ℕ) → Option (List ℕ) → List ℕ → Type 0
@@ -103,9 +101,10 @@ Lacks (Some old) missing = missing ≢ []
 abbrev pub IsCutShort : Status → Type 0
 IsCutShort status = (status.code ≡ 1) ⊎ ((status.code ≡ 5) ⊎ (status.code ≡ 7))
 
--- an answer for bytes behind which a feed may go on: they end after a whole item, or they are cut
+-- an answer for bytes behind which a source may fail: they end after a whole item, or they are cut, or the samples that
+-- were given last have a wrong one, since those of a picture are judged in pieces
 abbrev pub IsOpenEnd : Status → Type 0
-IsOpenEnd status = (status.code ≡ 0) ⊎ (status.number ≡ 112)
+IsOpenEnd status = (status.code ≡ 0) ⊎ ((status.number ≡ 112) ⊎ (status.number ≡ 115))
 
 -- what the devices of a run show: what its source tells, what was written, and how often each has failed
 pub record Outside : Type 0 where

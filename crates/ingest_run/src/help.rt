@@ -8,7 +8,8 @@ ghost use Rattle.ingest_run.specs.Words.{texts};
 
 /// `--help`, `-h` and `help`.
 pub const SERVER: &str = "\
-ingest_server - takes in finished ProRes frames and writes an MXF file of them
+ingest_server - takes in pictures or finished ProRes frames and writes an MXF
+file of them
 
 Usage: ingest_server COMMAND
        ingest_server --help | --version
@@ -16,6 +17,8 @@ Usage: ingest_server COMMAND
 Commands:
   wrap    read a feed of finished frames on standard input and write one
           closed MXF OP1a file of them to standard output
+  encode  read a feed of pictures on standard input and write one closed MXF
+          OP1a file of their ProRes frames to standard output
 
 Help:
   -h, --help, help    print this text
@@ -23,10 +26,10 @@ Help:
   --version           print the version
 
 A command reads its input once, from the first byte to the last. In memory
-it keeps room for the longest frame so far, 24 bytes for each frame, and a
-buffer for what stands between frames. Where the input breaks off or breaks
-its form, or where a frame is refused, the file of the whole frames before
-that place has been written.
+it keeps room for one frame, of encode for the longest one and for a picture
+too, 24 bytes for each frame, and a buffer for what stands between frames.
+Where the input breaks off or breaks its form, or where a frame is refused,
+the file of the whole frames before that place has been written.
 
 Exit status, with the number that stands behind `refusal` in the fault line:
   0    everything was read, and everything was written
@@ -34,13 +37,14 @@ Exit status, with the number that stands behind `refusal` in the fault line:
   2    the words are no command with its options (0)
   3    the feed breaks its form:
          110  the head: the magic bytes or a field of the configuration
-         111  an item does not begin with UNIT
+         111  an item does not begin with UNIT, or for encode with PICT
          112  the feed ends inside its head or inside an item
          114  the feed is longer than 2^44 bytes
-         116  a frame is longer than 2^28 bytes
+         115  a sample is above 1023 (encode)
+         116  a frame is longer than 2^28 bytes (wrap)
   5    standard input could not be read (113)
   7    standard output could not be written (117)
-  8    a frame is refused:
+  8    a frame is refused (wrap):
          30   it has fewer bytes than the least frame header
          31   its bytes 4 to 7 are not icpf
          32   its frame size is not the number of its bytes
@@ -54,7 +58,7 @@ Exit status, with the number that stands behind `refusal` in the fault line:
               or passes the frame
          41   a slice passes its coded picture
          42   its width, height or interlace mode is not the configured one
-  10   the feed has more frames than its configuration allows (95)
+  10   the feed has more frames or pictures than its configuration allows (95)
 
 Where the status is not 0, standard error has the line
   ingest_server: status C refusal N at A other O
@@ -97,8 +101,41 @@ bytes are cut or wrong, nothing is written.
 `ingest_server --help` lists the statuses.
 ";
 
-/// Behind the fault line, where the words are no command.
-pub const USAGE: &str = "usage: ingest_server wrap < FEED > FILE.mxf, or ingest_server --help\n";
+/// `encode --help` and `encode -h`.
+pub const ENCODE: &str = "\
+ingest_server encode - encode pictures as ProRes frames in one MXF OP1a file
+
+Usage: ingest_server encode --workers N < FEED > FILE.mxf
+
+Reads from standard input a feed of pictures:
+  8 bytes    PRFEEDP1
+  64 bytes   the configuration: size, quantisation, rate and limits
+  then, for each picture, the four bytes PICT and its samples, 0 to 1023, each
+  in two bytes, the highest first: Y, then Cb, then Cr, each row by row, all of
+  the configured width and height, Cb and Cr of half the width
+
+Writes to standard output the file that `wrap` writes, of the frame of each
+picture. No byte is written twice: a frame is written before a byte of the
+next picture is read.
+
+Options:
+  --workers N    from 1 to 64; must be given. Today one thread encodes,
+                 whatever N is. The file is the same for each N.
+
+Where the feed breaks off or breaks its form (status 3), where it has more
+pictures than its configuration allows (status 10), or where reading fails
+(status 5), the file of the frames of the whole pictures before that place is
+closed and has been written. Where the first 72 bytes are cut or wrong, nothing
+is written.
+`ingest_server --help` lists the statuses.
+";
+
+/// Behind the sentence, where the words are no command: the end of its line, and how the program is called.
+pub const USAGE: &str = "
+usage: ingest_server wrap < FEED > FILE.mxf
+       ingest_server encode --workers N < FEED > FILE.mxf
+       ingest_server --help
+";
 
 /// `--version`.
 pub const VERSION: &str = "ingest_server 1\n";
@@ -117,6 +154,9 @@ pub(crate) fn help_text(words: &[String]) -> Option<&'static str>
     }
     if first == "wrap" && are_help(rest) {
         return Some(WRAP);
+    }
+    if first == "encode" && are_help(rest) {
+        return Some(ENCODE);
     }
     None
 }

@@ -8,18 +8,19 @@ ghost use Rattle.ingest_run.specs.Messages.{taken};
 ghost use Rattle.ingest_run.specs.Programs.{AnswersFor, AnswersHelp, AnswersWords, EndsProgram};
 ghost use Rattle.ingest_run.specs.Runs.{outside};
 ghost use Rattle.ingest_run.specs.Words.{texts, texts_in};
+ghost use Rattle.ingest_run.specs.inner.Answers.{run_answer};
 
-use crate::command::plain;
+use crate::command::run_words;
+use crate::ended::{RunFault, run_status, sink_fault};
 use crate::help::help_text;
 use crate::report::report;
-use crate::words::{WordsFault, words_status};
+use crate::words::WordsFault;
 use raw_feed::{Feed, MAX_UNIT, Sink, Source, put_all};
-use rec_bytes::{Failed, Status};
-use run_parts::sink_status;
+use rec_bytes::Failed;
 use take_layout::TakeLayout;
 
 /// Answers a program's words, or why they can't be read: by a text of help, or by the command that they name. It writes
-/// the fault line and how the program is called to the messages, and answers the exit code.
+/// the fault line, a sentence and how the program is called to the messages, and answers the exit code.
 pub fn run_program<R: AllocGlobal, N: Feed, L: TakeLayout, S: Source<N>, W: Sink, M: Sink>(
     rt: &R,
     words: &Result<Vec<String>, WordsFault>,
@@ -33,12 +34,12 @@ pub fn run_program<R: AllocGlobal, N: Feed, L: TakeLayout, S: Source<N>, W: Sink
         (outside (S.told feed.new) (S.fault_count feed.new) (W.written out.new) (W.fault_count out.new)))
         (taken (M.written messages.old) (M.fault_count messages.old)) (taken (M.written messages.new) (M.fault_count messages.new)) result }
 {
-    let status = match words {
+    let ended = match words {
         Ok(words) => answer::<R, N, L, S, W>(rt, words.as_slice(), feed, out),
-        Err(fault) => words_status(*fault),
+        Err(fault) => Err(RunFault::Words(*fault)),
     };
-    report(status, messages);
-    status.code
+    report(ended, messages);
+    run_status(ended).code
 }
 
 /// Answers the words: by a text of help, or by the command that they name.
@@ -47,25 +48,25 @@ fn answer<R: AllocGlobal, N: Feed, L: TakeLayout, S: Source<N>, W: Sink>(
     words: &[String],
     feed: &mut S,
     out: &mut W,
-) -> Status
+) -> Result<(), RunFault>
     requires units { (cfg : Fields) (unit : List ℕ) → length unit ≤ MAX_UNIT → L.is_unit cfg unit }
     ensures { AnswersFor L.closed L.growing (help_of (texts words.now)) (texts words.now)
         (outside (S.told feed.old) (S.fault_count feed.old) (W.written out.old) (W.fault_count out.old))
-        (outside (S.told feed.new) (S.fault_count feed.new) (W.written out.new) (W.fault_count out.new)) result }
+        (outside (S.told feed.new) (S.fault_count feed.new) (W.written out.new) (W.fault_count out.new)) (run_answer result) }
 {
     match help_text(words) {
         Some(text) => write_help(text, out),
-        None => plain::<R, N, L, S, W>(rt, words, feed, out),
+        None => run_words::<R, N, L, S, W>(rt, words, feed, out),
     }
 }
 
 /// Writes a text of help.
-fn write_help<W: Sink>(text: &str, out: &mut W) -> Status
+fn write_help<W: Sink>(text: &str, out: &mut W) -> Result<(), RunFault>
     ensures { (told : Option Told) (source : ℕ) → AnswersHelp text.now (outside told source (W.written out.old) (W.fault_count out.old))
-        (outside told source (W.written out.new) (W.fault_count out.new)) result }
+        (outside told source (W.written out.new) (W.fault_count out.new)) (run_answer result) }
 {
     match put_all(out, text.as_bytes()) {
-        Ok(()) => Status::DONE,
-        Err(Failed) => sink_status(out),
+        Ok(()) => Ok(()),
+        Err(Failed) => Err(sink_fault(out)),
     }
 }

@@ -1,6 +1,6 @@
 ghost use Rattle.std.specs.Prelude.{◌≡◌, Some};
 
-use crate::{WordsFault, plain, run_program};
+use crate::plain;
 use mxf_take_file::PictureLayout;
 use raw_feed::{Feed, MemorySink, MemorySource};
 use rec_bytes::Status;
@@ -11,7 +11,7 @@ use std::test::Fail;
 use take_layout::files_are_one;
 
 // docs/FORMATS.md, "Feeds" and "Configuration": the magic and the small configuration, written by hand.
-const HEAD: [u8; 72] = [
+pub(crate) const HEAD: [u8; 72] = [
     0x50, 0x52, 0x46, 0x45, 0x45, 0x44, 0x55, 0x31, 0x00, 0x10, 0x00, 0x10, 0x00, 0x03, 0x01, 0x01,
     0x01, 0x01, 0x00, 0x01, 0xe0, 0x00, 0x00, 0x00, 0x10, 0x00, 0x00, 0xfa, 0x00, 0x00, 0x00, 0x64,
     0x00, 0x08, 0x00, 0x00, 0x00, 0x00, 0x00, 0x00, 0x00, 0x00, 0x00, 0x00, 0x00, 0x00, 0x00, 0x00,
@@ -20,7 +20,7 @@ const HEAD: [u8; 72] = [
 ];
 
 // docs/FORMATS.md, "Smallest frame".
-const FRAME: [u8; 50] = [
+pub(crate) const FRAME: [u8; 50] = [
     0x00, 0x00, 0x00, 0x32, 0x69, 0x63, 0x70, 0x66, 0x00, 0x14, 0x00, 0x00, 0x50, 0x52, 0x54, 0x4b,
     0x00, 0x10, 0x00, 0x10, 0x80, 0x13, 0x01, 0x01, 0x01, 0x00, 0x00, 0x00, 0x40, 0x00, 0x00, 0x00,
     0x16, 0x00, 0x01, 0x00, 0x00, 0x0c, 0x30, 0x01, 0x00, 0x02, 0x00, 0x02, 0x82, 0x30, 0x82, 0x00,
@@ -34,7 +34,8 @@ const ELEMENT_HEAD: [u8; 24] = [
 ];
 
 // docs/FORMATS.md, "Partition packs" and "Random index pack": the keys.
-const HEADER_KEY: [u8; 16] = *b"\x06\x0e\x2b\x34\x02\x05\x01\x01\x0d\x01\x02\x01\x01\x02\x01\x00";
+pub(crate) const HEADER_KEY: [u8; 16] =
+    *b"\x06\x0e\x2b\x34\x02\x05\x01\x01\x0d\x01\x02\x01\x01\x02\x01\x00";
 
 const BODY_KEY: [u8; 16] = *b"\x06\x0e\x2b\x34\x02\x05\x01\x01\x0d\x01\x02\x01\x01\x03\x01\x00";
 
@@ -50,10 +51,10 @@ const SEGMENT_KEY: [u8; 16] = *b"\x06\x0e\x2b\x34\x02\x53\x01\x01\x0d\x01\x02\x0
 const DURATION_AT: usize = 1878;
 
 /// What a run answers (code, number, place; second number), and what it writes.
-type Run = (((u8, u16, u64), u64), Vec<u8>);
+pub(crate) type Run = (((u8, u16, u64), u64), Vec<u8>);
 
 /// The feed of so many of the smallest frames, 72 bytes and 58 for each.
-fn feed_of(alloc: Global, units: usize) -> Result<Vec<u8>, Fail> {
+pub(crate) fn feed_of(alloc: Global, units: usize) -> Result<Vec<u8>, Fail> {
     let mut bytes = HEAD.to_vec(alloc)?;
     for _ in 0..units {
         bytes.extend_from_slice(b"UNIT\x00\x00\x00\x32")?;
@@ -63,13 +64,13 @@ fn feed_of(alloc: Global, units: usize) -> Result<Vec<u8>, Fail> {
 }
 
 /// Puts bytes at a place.
-fn put(bytes: &mut Vec<u8>, at: usize, piece: &[u8]) {
+pub(crate) fn put(bytes: &mut Vec<u8>, at: usize, piece: &[u8]) {
     for (place, byte) in bytes.iter_mut().skip(at).zip(piece) {
         *place = *byte;
     }
 }
 
-fn words_of(alloc: Global, texts: &[&str]) -> Result<Vec<String>, Fail> {
+pub(crate) fn words_of(alloc: Global, texts: &[&str]) -> Result<Vec<String>, Fail> {
     let mut words = Vec::new(alloc);
     for text in texts {
         words.push(String::from_str(alloc, text)?)?;
@@ -77,10 +78,11 @@ fn words_of(alloc: Global, texts: &[&str]) -> Result<Vec<String>, Fail> {
     Ok(words)
 }
 
-/// Runs `wrap` where calls of the source and of the sink, numbered from 0, fail. Words that are no command come first:
-/// they take no call of either.
-fn wrapped<N: Feed, R: AllocGlobal + Abort>(
+/// Runs the command of a call where calls of the source and of the sink, numbered from 0, fail. Words that are no command
+/// come first: they take no call of either.
+pub(crate) fn ran<N: Feed, R: AllocGlobal + Abort>(
     rt: &R,
+    call: &[&str],
     bytes: &[u8],
     source_fails: &[u64],
     sink_fails: &[u64],
@@ -90,7 +92,13 @@ fn wrapped<N: Feed, R: AllocGlobal + Abort>(
 {
     let mut feed = MemorySource::<N>::new(bytes, source_fails);
     let mut out = MemorySink::new(rt.alloc(), room, sink_fails)?;
-    let faulty: [&[&str]; 4] = [&[], &["unwrap"], &["wrap", "x"], &["wrap", "--help"]];
+    let faulty: [&[&str]; 5] = [
+        &[],
+        &["unwrap"],
+        &["wrap", "x"],
+        &["wrap", "--help"],
+        &["encode"],
+    ];
     for texts in faulty {
         let words = words_of(rt.alloc(), texts)?;
         let status = plain::<R, N, PictureLayout, _, _>(rt, &words, &mut feed, &mut out);
@@ -103,10 +111,23 @@ fn wrapped<N: Feed, R: AllocGlobal + Abort>(
         assert_eq!(rt; status, want, "{texts:?}");
         assert_eq!(rt; out.bytes().len(), 0, "{texts:?}");
     }
-    let words = words_of(rt.alloc(), &["wrap"])?;
+    let words = words_of(rt.alloc(), call)?;
     let status = plain::<R, N, PictureLayout, _, _>(rt, &words, &mut feed, &mut out);
     let answer = (status.code, status.number, status.at);
     Ok(((answer, status.other), out.bytes().to_vec(rt.alloc())?))
+}
+
+/// Runs `wrap`.
+pub(crate) fn wrapped<N: Feed, R: AllocGlobal + Abort>(
+    rt: &R,
+    bytes: &[u8],
+    source_fails: &[u64],
+    sink_fails: &[u64],
+    room: usize,
+) -> Result<Run, Fail>
+    requires { N.bytes ≡ Some bytes.now }
+{
+    ran::<N, R>(rt, &["wrap"], bytes, source_fails, sink_fails, room)
 }
 
 #[test]
@@ -411,102 +432,5 @@ fn a_device_that_fails_costs_nothing_that_came_before(rt: HostRuntime) -> Result
         let (_, file) = wrapped::<Brand, HostRuntime>(&rt, &whole, &[], &[], 10_000)?;
         assert_eq!(rt; Some(written.as_slice()), file.get(..len), "{name}");
     }
-    Ok(())
-}
-
-/// What a program answers and writes, and its messages.
-type Report = (u8, Vec<u8>, Vec<u8>);
-
-/// Runs the program over the feed of three frames, cut at byte 200.
-fn reported<N: Feed, R: AllocGlobal + Abort>(
-    rt: &R,
-    bytes: &[u8],
-    words: &Result<Vec<String>, WordsFault>,
-    room: usize,
-    message_room: usize,
-) -> Result<Report, Fail>
-    requires { N.bytes ≡ Some bytes.now }
-{
-    let mut feed = MemorySource::<N>::new(bytes, &[]);
-    let mut out = MemorySink::new(rt.alloc(), room, &[])?;
-    let mut messages = MemorySink::new(rt.alloc(), message_room, &[])?;
-    let code = run_program::<R, N, PictureLayout, _, _, _>(
-        rt,
-        words,
-        &mut feed,
-        &mut out,
-        &mut messages,
-    );
-    Ok((
-        code,
-        out.bytes().to_vec(rt.alloc())?,
-        messages.bytes().to_vec(rt.alloc())?,
-    ))
-}
-
-#[test]
-fn a_program_says_its_answer(rt: HostRuntime) -> Result<(), Fail> {
-    const CUT: &[u8] = b"ingest_server: status 3 refusal 112 at 200 other 0\n";
-    const SINK: &[u8] = b"ingest_server: status 7 refusal 117 at 1 other 0\n";
-    const WORDS: &[u8] = b"ingest_server: status 2 refusal 0 at 0 other 0\n\
-        usage: ingest_server wrap < FEED > FILE.mxf, or ingest_server --help\n";
-    // words, room of the output and of the messages; the code, bytes of the output and the first of them, and the messages
-    let cases: [(&[&str], usize, usize, u8, usize, &[u8], &[u8]); 10] = [
-        (&["wrap"], 10_000, 200, 3, 7072, &HEADER_KEY, CUT),
-        (&["wrap"], 10_000, 20, 3, 7072, &HEADER_KEY, b""),
-        (&["wrap"], 3_000, 200, 7, 0, b"", SINK),
-        (&[], 10_000, 200, 2, 0, b"", WORDS),
-        (&["unwrap"], 10_000, 200, 2, 0, b"", WORDS),
-        (
-            &["wrap", "--help", "x"],
-            10_000,
-            60,
-            2,
-            0,
-            b"",
-            &WORDS[..47],
-        ),
-        (
-            &["--version"],
-            10_000,
-            200,
-            0,
-            16,
-            b"ingest_server 1\n",
-            b"",
-        ),
-        (
-            &["wrap", "-h"],
-            10_000,
-            200,
-            0,
-            1344,
-            b"ingest_server wrap - ",
-            b"",
-        ),
-        (&["wrap", "-h"], 10, 200, 7, 0, b"", SINK),
-        (&["help", "x"], 10, 200, 7, 0, b"", SINK),
-    ];
-    let mut bytes = feed_of(rt.alloc(), 3)?;
-    bytes.truncate(200);
-    for (texts, room, message_room, code, len, front, said) in cases {
-        let words = Ok(words_of(rt.alloc(), texts)?);
-        let (got, written, messages) = reported::<Brand, HostRuntime>(
-            &rt,
-            &bytes,
-            &words,
-            room,
-            message_room,
-        )?;
-        assert_eq!(rt; got, code, "{texts:?}");
-        assert_eq!(rt; written.len(), len, "{texts:?}");
-        assert_eq!(rt; written.get(..front.len()), Some(front), "{texts:?}");
-        assert_eq!(rt; messages.as_slice(), said, "{texts:?}");
-    }
-    let none = Err(WordsFault::Memory);
-    let (got, _, messages) = reported::<Brand, HostRuntime>(&rt, &bytes, &none, 10, 200)?;
-    assert_eq!(rt; got, 1);
-    let want: &[u8] = b"ingest_server: status 1 refusal 1 at 0 other 0\n";
-    assert_eq!(rt; messages.as_slice(), want);
     Ok(())
 }

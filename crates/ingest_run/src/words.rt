@@ -3,10 +3,11 @@
 ghost use Rattle.std.specs.Prelude.{◌≡◌, ◌≢◌, [], true, IfOk, OnOk};
 ghost use Rattle.clap.specs.Words.{app_of, fault_of, is_simple_and_free};
 ghost use Rattle.ingest_run.specs.Programs.{fault_answer};
-ghost use Rattle.ingest_run.specs.Words.{command_of, texts, wrap};
+ghost use Rattle.ingest_run.specs.Words.{command_of, encode, texts, wrap};
 
+use clap::ArgAction;
 use clap::error::ErrorKind;
-use rec_bytes::Status;
+use rec_bytes::{Memory, Status};
 use run_parts::{FAULTY_WORDS, MEMORY};
 use std::alloc::Global;
 use thiserror::Error;
@@ -16,6 +17,8 @@ use thiserror::Error;
 pub(crate) enum Command {
     /// Write the closed file of a feed of units.
     Wrap,
+    /// Write the closed file of the frames of a feed of pictures.
+    Encode,
 }
 
 /// Why words give no command.
@@ -49,6 +52,7 @@ pub(crate) fn read_command(alloc: Global, words: &[String]) -> Result<Command, W
     };
     match first.as_str() {
         "wrap" => read_wrap(alloc, words),
+        "encode" => read_encode(alloc, words),
         _ => Err(WordsFault::Faulty),
     }
 }
@@ -61,6 +65,34 @@ fn read_wrap(alloc: Global, words: &[String]) -> Result<Command, WordsFault>
     let command = clap::Command::new(alloc, "wrap").disable_help_flag(true);
     take_words(command, words)?;
     Ok(Command::Wrap)
+}
+
+fn read_encode(alloc: Global, words: &[String]) -> Result<Command, WordsFault>
+    ensures named { IfOk result (λ command. command ≡ Command.Encode) }
+    ensures taken { OnOk result (fault_of encode (texts words.now) ≡ []) }
+    ensures refused { result ≡ Err WordsFault.Faulty → fault_of encode (texts words.now) ≢ [] }
+{
+    let Ok(command) = encode_command(alloc) else {
+        return Err(WordsFault::Memory);
+    };
+    take_words(command, words)?;
+    Ok(Command::Encode)
+}
+
+// `encode` and its option.
+fn encode_command<'a>(alloc: Global) -> Result<clap::Command<'a>, Memory>
+    ensures { IfOk result (λ command. app_of command ≡ encode) }
+{
+    let workers = clap::Arg::new(alloc, "workers")
+        .long("workers")
+        .required(true)
+        .action(ArgAction::Set)
+        .value_parser(clap::value_parser!(u8).range(1..65));
+    let command = clap::Command::new(alloc, "encode").disable_help_flag(true);
+    match command.arg(workers) {
+        Ok(command) => Ok(command),
+        Err(_) => Err(Memory),
+    }
 }
 
 // Lets the command judge the words behind its name.
@@ -89,30 +121,45 @@ fn words_fault(kind: ErrorKind) -> WordsFault
 #[cfg(test)]
 mod tests {
     use super::*;
+    use crate::tests::words_of;
     use std::test::Fail;
 
     // docs/FORMATS.md, "Words": each answer is worked out by hand. `--` ends the options, and takes nothing.
     #[test]
-    fn only_wrap_with_nothing_behind_it_is_a_command(rt: HostRuntime) -> Result<(), Fail> {
-        let cases: [(&[&str], Result<Command, WordsFault>); 12] = [
-            (&[], Err(WordsFault::Faulty)),
+    fn wrap_alone_and_encode_with_its_workers_are_commands(rt: HostRuntime) -> Result<(), Fail> {
+        const FAULTY: Result<Command, WordsFault> = Err(WordsFault::Faulty);
+        let cases: [(&[&str], Result<Command, WordsFault>); 28] = [
+            (&[], FAULTY),
             (&["wrap"], Ok(Command::Wrap)),
             (&["wrap", "--"], Ok(Command::Wrap)),
-            (&["wrap", "--", "x"], Err(WordsFault::Faulty)),
-            (&["wrap", "x"], Err(WordsFault::Faulty)),
-            (&["wrap", ""], Err(WordsFault::Faulty)),
-            (&["wrap", "-"], Err(WordsFault::Faulty)),
-            (&["wrap", "--help"], Err(WordsFault::Faulty)),
-            (&["wrap", "-h"], Err(WordsFault::Faulty)),
-            (&["Wrap"], Err(WordsFault::Faulty)),
-            (&["help"], Err(WordsFault::Faulty)),
-            (&["", "wrap"], Err(WordsFault::Faulty)),
+            (&["wrap", "--", "x"], FAULTY),
+            (&["wrap", "x"], FAULTY),
+            (&["wrap", ""], FAULTY),
+            (&["wrap", "-"], FAULTY),
+            (&["wrap", "--help"], FAULTY),
+            (&["wrap", "-h"], FAULTY),
+            (&["wrap", "--workers", "2"], FAULTY),
+            (&["Wrap"], FAULTY),
+            (&["help"], FAULTY),
+            (&["", "wrap"], FAULTY),
+            (&["encode", "--workers", "1"], Ok(Command::Encode)),
+            (&["encode", "--workers", "64"], Ok(Command::Encode)),
+            (&["encode", "--workers=3"], Ok(Command::Encode)),
+            (&["encode"], FAULTY),
+            (&["encode", "--workers"], FAULTY),
+            (&["encode", "--workers", "0"], FAULTY),
+            (&["encode", "--workers", "65"], FAULTY),
+            (&["encode", "--workers", "x"], FAULTY),
+            (&["encode", "--workers", ""], FAULTY),
+            (&["encode", "--workers", "3", "x"], FAULTY),
+            (&["encode", "--workers", "3", "--workers", "3"], FAULTY),
+            (&["encode", "3"], FAULTY),
+            (&["encode", "-w", "3"], FAULTY),
+            (&["encode", "--help"], FAULTY),
+            (&["Encode", "--workers", "3"], FAULTY),
         ];
         for (texts, answer) in cases {
-            let mut words = Vec::new(rt.alloc());
-            for text in texts {
-                words.push(String::from_str(rt.alloc(), text)?)?;
-            }
+            let words = words_of(rt.alloc(), texts)?;
             assert_eq!(rt; read_command(rt.alloc(), &words), answer, "{texts:?}");
         }
         Ok(())

@@ -4,16 +4,20 @@ ghost use Rattle.std.specs.Prelude.{◌≡◌, ◌≤◌, ◌<◌, ℕ, List, le
 ghost use Rattle.rec_bytes.specs.Configuration.{Fields};
 ghost use Rattle.raw_feed.specs.declared.head.TheConstants.{FEED_HEAD_LEN};
 ghost use Rattle.run_parts.specs.Causes.{HasFeedCauses, counts};
-ghost use Rattle.run_parts.specs.Statuses.{end_answer, feed_end_answer};
-ghost use Rattle.ingest_run.specs.Runs.{Runs, Wraps, KeepsPace, outside};
-ghost use Rattle.ingest_run.specs.inner.Steps.{OnItem, IfEnd, ReadsUnit, EndsReading, StaysSilent, HasEndCause, ending_of};
+ghost use Rattle.run_parts.specs.Statuses.{end_answer};
+ghost use Rattle.ingest_run.specs.Paces.{IsPassedOn, KeepsPace};
+ghost use Rattle.ingest_run.specs.Runs.{Runs, Wraps, outside};
+ghost use Rattle.ingest_run.specs.inner.Answers.{run_answer};
+ghost use Rattle.ingest_run.specs.inner.Steps.{OnItem, IfEnd, ReadsUnit, EndsReading, StaysSilent, HasEndCause};
 
+use crate::ended::{RunFault, run_end};
+use crate::next::{Next, read_end};
 use raw_feed::{
     Feed, FeedFault, FeedReader, Kind, MAX_UNIT, Sink, Source, Stage, UnitBuffer,
     faults_are_placed, feeds_are_one, readings_end, readings_grow,
 };
-use rec_bytes::{Failed, Memory, Status};
-use run_parts::{CommandEnd, FeedEnd, PutFault, TakeFile, end_status, unit_fault};
+use rec_bytes::{Failed, Memory};
+use run_parts::{CommandEnd, FeedEnd, PutFault, TakeFile, unit_fault};
 use std::alloc::Global;
 use take_layout::TakeLayout;
 
@@ -23,16 +27,16 @@ pub(crate) fn wrap<N: Feed, L: TakeLayout, S: Source<N>, W: Sink>(
     alloc: Global,
     feed: &mut S,
     out: &mut W,
-) -> Status
+) -> Result<(), RunFault>
     requires units { (cfg : Fields) (unit : List ℕ) → length unit ≤ MAX_UNIT → L.is_unit cfg unit }
-    ensures ran { Runs (Wraps L.closed) (KeepsPace L.growing)
+    ensures ran { Runs (Wraps L.closed) (KeepsPace Kind.Units IsPassedOn L.growing)
         (outside (S.told feed.old) (S.fault_count feed.old) (W.written out.old) (W.fault_count out.old))
-        (outside (S.told feed.new) (S.fault_count feed.new) (W.written out.new) (W.fault_count out.new)) result }
+        (outside (S.told feed.new) (S.fault_count feed.new) (W.written out.new) (W.fault_count out.new)) (run_answer result) }
     ensures cause { HasFeedCauses
-        (counts (S.fault_count feed.old) (W.fault_count out.old)) (counts (S.fault_count feed.new) (W.fault_count out.new)) result }
+        (counts (S.fault_count feed.old) (W.fault_count out.old)) (counts (S.fault_count feed.new) (W.fault_count out.new)) (run_answer result) }
 {
     let ended = wrap_units::<N, L, S, W>(alloc, feed, out);
-    end_status(ended, out)
+    run_end(ended, out)
 }
 
 /// Writes the closed file of the units before a feed's end or the first unit that is refused, unit by unit as they are read.
@@ -42,7 +46,7 @@ fn wrap_units<N: Feed, L: TakeLayout, S: Source<N>, W: Sink>(
     out: &mut W,
 ) -> Result<CommandEnd, PutFault>
     requires units { (cfg : Fields) (unit : List ℕ) → length unit ≤ MAX_UNIT → L.is_unit cfg unit }
-    ensures ran { Runs (Wraps L.closed) (KeepsPace L.growing)
+    ensures ran { Runs (Wraps L.closed) (KeepsPace Kind.Units IsPassedOn L.growing)
         (outside (S.told feed.old) (S.fault_count feed.old) (W.written out.old) (W.fault_count out.old))
         (outside (S.told feed.new) (S.fault_count feed.new) (W.written out.new) (W.fault_count out.new))
         (end_answer (W.fault_count out.new) result) }
@@ -90,14 +94,6 @@ fn wrap_units<N: Feed, L: TakeLayout, S: Source<N>, W: Sink>(
     }
 }
 
-/// What comes next in a feed.
-enum Next {
-    /// A unit, which was read.
-    Item,
-    /// The feed's end.
-    End(FeedEnd),
-}
-
 /// Reads the next unit of a feed, or how it ends: behind as many units as its configuration allows only the next marker is read.
 fn next_unit<N: Feed, S: Source<N>>(
     reader: &mut FeedReader<N>,
@@ -109,6 +105,7 @@ fn next_unit<N: Feed, S: Source<N>>(
     requires behind { FEED_HEAD_LEN ≤ reader.old.at }
     requires most { reader.old.count ≤ reader.old.config.max_frames }
     ensures unit { OnItem result (ReadsUnit reader.old reader.new (S.told feed.old) (S.told feed.new) unit.new) }
+    ensures size { OnItem result (length unit.new ≤ MAX_UNIT) }
     ensures ended { IfEnd result (EndsReading reader.old (S.told feed.old) (S.told feed.new)) }
     ensures silent { StaysSilent (S.told feed.old) (S.told feed.new) }
 
@@ -132,6 +129,7 @@ fn read_unit<N: Feed, S: Source<N>>(
     requires behind { FEED_HEAD_LEN ≤ reader.old.at }
     requires room { reader.old.count < reader.old.config.max_frames }
     ensures unit { OnItem result (ReadsUnit reader.old reader.new (S.told feed.old) (S.told feed.new) unit.new) }
+    ensures size { OnItem result (length unit.new ≤ MAX_UNIT) }
     ensures ended { IfEnd result (EndsReading reader.old (S.told feed.old) (S.told feed.new)) }
     ensures silent { StaysSilent (S.told feed.old) (S.told feed.new) }
 
@@ -147,27 +145,5 @@ fn read_unit<N: Feed, S: Source<N>>(
         Ok(false) => Ok(Next::End(FeedEnd::Clean)),
         Err(FeedFault::Memory) => Err(Memory),
         Err(fault) => Ok(Next::End(FeedEnd::Broken(fault))),
-    }
-}
-
-/// How a feed ends behind as many units as its configuration allows.
-fn read_end<N: Feed, S: Source<N>>(reader: &mut FeedReader<N>, feed: &mut S) -> FeedEnd
-    requires open { reader.old.stage ≡ Stage.Open }
-    requires kind { reader.old.kind ≡ Kind.Units }
-    requires behind { FEED_HEAD_LEN ≤ reader.old.at }
-    requires full { reader.old.count ≡ reader.old.config.max_frames }
-    ensures ended { EndsReading reader.old (S.told feed.old) (S.told feed.new) (feed_end_answer result) (ending_of result) }
-    ensures silent { StaysSilent (S.told feed.old) (S.told feed.new) }
-    ensures cause { HasEndCause (S.fault_count feed.old) (S.fault_count feed.new) (feed_end_answer result) }
-{
-    reader.config().ranges();
-    faults_are_placed();
-    readings_end();
-    match reader.marker(feed) {
-        Ok(true) => FeedEnd::Full {
-            items: reader.read_count(),
-        },
-        Ok(false) => FeedEnd::Clean,
-        Err(fault) => FeedEnd::Broken(fault),
     }
 }

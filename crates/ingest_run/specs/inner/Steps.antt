@@ -1,11 +1,10 @@
--- The steps of `wrap` (own). Private functions alone cite these.
-use Rattle.std.specs.Prelude.{◌≡◌, ◌≢◌, ◌+◌, ◌<◌, ◌≤◌, ℕ, List, [], ◌∷◌, ◌++◌, length, Option, None, Result, Ok, Err}
+-- The steps of the commands that read a feed (own). Private functions alone cite these.
+use Rattle.std.specs.Prelude.{◌≡◌, ◌≢◌, ◌⊎◌, ◌+◌, ◌<◌, ◌≤◌, ℕ, List, [], ◌∷◌, ◌++◌, Option, None, Result, Ok, Err}
 use Rattle.rec_bytes.specs.Faults.{Rose}
 use Rattle.rec_bytes.specs.Ranges.{IsInRange}
 use Rattle.rec_bytes.specs.declared.status.Status.{Status}
 use Rattle.rec_bytes.specs.declared.status.Memory.{Memory}
 use Rattle.raw_feed.specs.declared.fault.FeedFault.TheVariants.{Memory as NoMemory}
-use Rattle.raw_feed.specs.declared.limits.TheConstants.{MAX_UNIT}
 use Rattle.raw_feed.specs.declared.stage.Stage.TheVariants.{Open}
 use Rattle.raw_feed.specs.Told.{Told}
 use Rattle.raw_feed.specs.Items.{Ending, Clean, Full, Broken}
@@ -13,10 +12,10 @@ use Rattle.raw_feed.specs.HasRead.{HasRead, EndsFeed}
 use Rattle.raw_feed.specs.Reading.{Reading}
 use Rattle.run_parts.specs.declared.end.FeedEnd.{FeedEnd}
 use Rattle.run_parts.specs.declared.end.FeedEnd.TheVariants.{Clean as EndClean, Full as EndFull, Broken as EndBroken}
-use Rattle.run_parts.specs.Causes.{IsFeedAnswer}
-use Rattle.run_parts.specs.Statuses.{answer, ending_answer, feed_end_answer, memory_answer}
-use Rattle.ingest_run.specs.declared.wrap.Next.{Next}
-use Rattle.ingest_run.specs.declared.wrap.Next.TheVariants.{Item, End}
+use Rattle.run_parts.specs.Causes.{Counts, IsFeedAnswer, HasDeviceCauses}
+use Rattle.run_parts.specs.Statuses.{answer, ending_answer, feed_end_answer, memory_answer, sink_answer}
+use Rattle.ingest_run.specs.declared.next.Next.{Next}
+use Rattle.ingest_run.specs.declared.next.Next.TheVariants.{Item, End}
 
 -- the ending that a feed's end is
 abbrev pub ending_of : FeedEnd → Ending
@@ -44,7 +43,6 @@ StaysSilent told now = told ≡ None → now ≡ None
 pub record ReadsUnit (old new : Reading) (told now : Option Told) (unit : List ℕ) : Type 0 where
   pub ranges : IsInRange old.config
   pub room : old.count < old.config.max_frames
-  pub size : length unit ≤ MAX_UNIT
   pub stage : new.stage ≡ Open
   pub kind : new.kind ≡ old.kind
   pub config : new.config ≡ old.config
@@ -63,3 +61,8 @@ pub record HasEndCause (before now : ℕ) (status : Status) : Type 0 where
   pub source : status.code ≡ 5 → (status ≡ answer 5 113 now 0) × Rose before now
   pub source_kept : status.code ≢ 5 → now ≡ before
   pub no_sink : status.code ≢ 7
+
+-- the causes of an answer of `encode`, which is one for how a feed ends or for its sink, and never one for a unit
+pub record HasPictureCauses (before now : Counts) (status : Status) : Type 0 where
+  pub answered : IsFeedAnswer status ⊎ (status ≡ sink_answer now.sink)
+  pub devices : HasDeviceCauses before now status

@@ -12,4 +12,4 @@ returns-in-Some g c =
 pub returns-in-None : goal.returns-in-None
 returns-in-None g c =
     let L = g.L.TakeLayout in
-    answers_command L.closed L.growing (help_of (texts c.args.words.now)) (texts c.args.words.now) _ _ _ (rw c.in-None.is at (sym c.help_text.ensures)) (record { ran = c.plain.ensures.ran; idle = c.plain.ensures.idle; cause = c.plain.ensures.cause })
+    answers_command L.closed L.growing (help_of (texts c.args.words.now)) (texts c.args.words.now) _ _ _ (rw c.in-None.is at (sym c.help_text.ensures)) (record { ran = c.run_words.ensures.ran; idle = c.run_words.ensures.idle; cause = c.run_words.ensures.cause })

@@ -9,4 +9,4 @@ returns-in-Ok g c = λ told source.
 pub returns-in-Err : goal.returns-in-Err
 returns-in-Err g c = λ told source.
     let written = rw c.as_bytes.ensures.value at c.in-Err.ensures.written in
-    rw c.sink_status.ensures (help_failed c.args.text.now told source (g.W.Sink.written c.args.out.now) (g.W.Sink.written c.put_all.new.out) (g.W.Sink.fault_count c.args.out.now) (g.W.Sink.fault_count c.put_all.new.out) c.in-Err.field-0 written c.in-Err.ensures.cause)
+    rw c.sink_fault.ensures (help_failed c.args.text.now told source (g.W.Sink.written c.args.out.now) (g.W.Sink.written c.put_all.new.out) (g.W.Sink.fault_count c.args.out.now) (g.W.Sink.fault_count c.put_all.new.out) c.in-Err.field-0 written c.in-Err.ensures.cause)

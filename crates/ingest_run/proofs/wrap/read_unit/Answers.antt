@@ -34,6 +34,7 @@ returns-in-Err g c =
     let refuses = subst (λ (s : Stage). RefusesItem s c.args.reader.now c.read_unit.new.self (g.S.Source.told c.args.feed.now) (g.S.Source.told c.read_unit.new.source) c.in-Err.fault) c.requires.open c.in-Err.ensures.refused in
     record {
       unit = tt;
+      size = tt;
       ended = record {
         answered = refl;
         ends = λ units before has. c.readings_end.ensures.item c.args.reader.now c.read_unit.new.self units before (g.S.Source.told c.args.feed.now) (g.S.Source.told c.read_unit.new.source) c.in-Err.fault has c.requires.room c.in-Err.ensures.refused;

@@ -1,5 +1,5 @@
 use Rattle.std.proofs.Common.{Some}
-use Rattle.ingest_run.proofs.tests.a_program_says_its_answer.Given as goal
+use Rattle.ingest_run.proofs.message_tests.a_refusal_is_said_in_a_sentence.Given as goal
 
 -- the feed's bytes are those that are handed in
 abbrev pub ghosts-reported : goal.ghosts-reported

@@ -3,7 +3,7 @@ use Rattle.raw_feed.specs.declared.stage.Stage.{Stage}
 use Rattle.raw_feed.specs.Reading.{Reading, GivesMarker, RefusesMarker, HasReaderCause}
 use Rattle.run_parts.specs.Statuses.{answer}
 use Rattle.ingest_run.proofs.EndLemmas.{cause_fault}
-use Rattle.ingest_run.proofs.wrap.read_end.Goals as goal
+use Rattle.ingest_run.proofs.next.read_end.Goals as goal
 
 pub returns-in-Ok-true-clause-ended : goal.returns-in-Ok-true-clause-ended
 returns-in-Ok-true-clause-ended g c =

@@ -1,0 +1,6 @@
+use Rattle.std.proofs.Common.{Some}
+use Rattle.ingest_run.proofs.message_tests.a_program_says_its_answer.Given as goal
+
+-- the feed's bytes are those that are handed in
+abbrev pub ghosts-reported : goal.ghosts-reported
+ghosts-reported g a = record { bytes = Some a.bytes.now }
