@@ -3,3 +3,4 @@ pub mod HeadLemmas
 pub mod NumberLemmas
 pub mod ReadLemmas
 pub mod RefusalLemmas
+pub mod OutlineLemmas
