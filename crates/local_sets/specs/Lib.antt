@@ -1,3 +1,4 @@
+pub mod Reads
 pub mod Sets
 pub mod Values
 pub mod laws

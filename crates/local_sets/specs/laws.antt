@@ -1,2 +1,4 @@
 pub mod Lengths
+pub mod Numbers
+pub mod Reads
 pub mod Writes

@@ -1,5 +1,6 @@
 //! Rows worked out by hand from the rules of docs/FORMATS.md, "Local sets".
 
+use crate::reading::read_item;
 use crate::set::{Item, items_len, put_items, put_set};
 use crate::value::Value;
 
@@ -95,4 +96,25 @@ fn a_set_has_its_key_a_length_of_three_bytes_and_its_items(rt: HostRuntime) {
         ],
         "the set between bytes that stay"
     );
+}
+
+#[test]
+fn an_item_is_read_where_it_is_whole(rt: HostRuntime) {
+    // Three items: of two bytes, of none, and of three of which two are there.
+    let value = [
+        0x12, 0x34, 0, 2, 7, 8, 0xff, 0xff, 0, 0, 0x3c, 0x0a, 0, 3, 1, 2,
+    ];
+    let cases: [(usize, Option<(u16, usize, usize)>); 6] = [
+        (0, Some((0x1234, 4, 2))),
+        (6, Some((0xffff, 10, 0))),
+        (10, None),
+        (4, None),
+        (13, None),
+        (16, None),
+    ];
+    for (at, answer) in cases {
+        let item = read_item(&value, at.min(16));
+        let read = item.map(|item| (item.tag, item.value_at, item.value_len));
+        assert_eq!(rt; read, answer, "the item at {at}");
+    }
 }

@@ -9,7 +9,7 @@
 //! Terms: a *set* is a local set of the metadata, named by its instance identifier; the *primer* lists the local
 //! tags that the sets use, each with a label; a *package* is material (what is shown) or a file (what is stored).
 //!
-//! Nothing here reads metadata, and nothing says where in a file it stands.
+//! Nothing here reads metadata (`mxf_metadata_reader` does), and nothing says where in a file it stands.
 #![tactic(auto)]
 
 mod labels;
@@ -23,7 +23,14 @@ mod tags;
 mod tests;
 mod writing;
 
+pub use labels::{
+    CLIP_SET, DESCRIPTOR_SET, FILE_SET, MATERIAL_SET, PICTURE_KIND, SEQUENCE_SET, TRACK_SET,
+};
 pub use laws::{metadata_holds, sets_are_linked};
-pub use lengths::{METADATA, PRIMER};
-pub use tags::{Size, TAGS, Tag};
+pub use lengths::{METADATA, PRIMER, PRIMER_ENTRY_LEN};
+pub use tags::{
+    CONTAINER_DURATION, CONTENT_STORAGE, DATA_DEFINITION, DESCRIPTOR, DURATION,
+    ESSENCE_CONTAINER_DATA, IDENTIFICATIONS, PACKAGE_ID, PACKAGES, SAMPLE_RATE, SEQUENCE,
+    SOURCE_PACKAGE_ID, STORED_HEIGHT, STORED_WIDTH, STRUCTURAL_COMPONENTS, Size, TAGS, TRACKS, Tag,
+};
 pub use writing::put_metadata;

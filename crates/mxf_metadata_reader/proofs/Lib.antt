@@ -1,0 +1,13 @@
+pub mod ExactLemmas
+pub mod FieldLemmas
+pub mod FormLemmas
+pub mod FoundLemmas
+pub mod LinkLemmas
+pub mod NameLemmas
+pub mod OutlineLemmas
+pub mod PrimerLemmas
+pub mod ReadLemmas
+pub mod WrittenLemmas
+pub mod WrittenSets
+pub mod WrittenMetadata
+pub mod RelationLemmas

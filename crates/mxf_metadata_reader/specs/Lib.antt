@@ -1,0 +1,10 @@
+pub mod Faults
+pub mod Fields
+pub mod PlacedSets
+pub mod PrimerTags
+pub mod Reads
+pub mod References
+pub mod Relations
+pub mod Sizes
+pub mod Written
+pub mod inner
