@@ -1,1 +1,9 @@
 pub mod EntryLemmas
+pub mod FrontLemmas
+pub mod ItemLemmas
+pub mod RefusalLemmas
+pub mod IndexLemmas
+pub mod BackLemmas
+pub mod StandLemmas
+pub mod EntryLaws
+pub mod PieceLemmas

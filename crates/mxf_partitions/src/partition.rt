@@ -166,51 +166,8 @@ fn put_labels(p: &Partition, out: &mut [u8], at: usize)
 #[cfg(test)]
 mod tests {
     use super::*;
-    use mxf_names::{ESSENCE_CONTAINER_LABEL, OPERATIONAL_PATTERN_1A};
-
-    /// The pack of the header partition of a file of ours with nothing known yet.
-    const HEADER: Partition = Partition {
-        kind: PartitionKind::Header,
-        status: PartitionStatus::OpenIncomplete,
-        major: 1,
-        minor: 3,
-        kag: 1,
-        this: 0,
-        previous: 0,
-        footer: 0,
-        header_bytes: 3165,
-        index_bytes: 0,
-        index_sid: 0,
-        body_offset: 0,
-        body_sid: 0,
-        pattern: OPERATIONAL_PATTERN_1A,
-        label_count: 1,
-        label: ESSENCE_CONTAINER_LABEL,
-    };
-
-    // docs/FORMATS.md, "Partition packs": the example, written by hand.
-    const HEADER_BYTES: [u8; 124] = [
-        0x06, 0x0e, 0x2b, 0x34, 0x02, 0x05, 0x01, 0x01, 0x0d, 0x01, 0x02, 0x01, 0x01, 0x02, 0x01,
-        0x00, 0x83, 0x00, 0x00, 0x68, 0x00, 0x01, 0x00, 0x03, 0x00, 0x00, 0x00, 0x01, 0x00, 0x00,
-        0x00, 0x00, 0x00, 0x00, 0x00, 0x00, 0x00, 0x00, 0x00, 0x00, 0x00, 0x00, 0x00, 0x00, 0x00,
-        0x00, 0x00, 0x00, 0x00, 0x00, 0x00, 0x00, 0x00, 0x00, 0x00, 0x00, 0x00, 0x00, 0x0c, 0x5d,
-        0x00, 0x00, 0x00, 0x00, 0x00, 0x00, 0x00, 0x00, 0x00, 0x00, 0x00, 0x00, 0x00, 0x00, 0x00,
-        0x00, 0x00, 0x00, 0x00, 0x00, 0x00, 0x00, 0x00, 0x00, 0x06, 0x0e, 0x2b, 0x34, 0x04, 0x01,
-        0x01, 0x01, 0x0d, 0x01, 0x02, 0x01, 0x01, 0x01, 0x09, 0x00, 0x00, 0x00, 0x00, 0x01, 0x00,
-        0x00, 0x00, 0x10, 0x06, 0x0e, 0x2b, 0x34, 0x04, 0x01, 0x01, 0x0d, 0x0d, 0x01, 0x03, 0x01,
-        0x02, 0x1c, 0x01, 0x00,
-    ];
-
-    /// The example with other bytes at some places.
-    fn changed(changes: &[(usize, u8)]) -> [u8; 124] {
-        let mut bytes = HEADER_BYTES;
-        for (at, byte) in changes {
-            if *at < 124 {
-                bytes[*at] = *byte;
-            }
-        }
-        bytes
-    }
+    use crate::examples::{HEADER, changed};
+    use crate::reading::read_partition;
 
     // Numbers of a file of three frames of 50 bytes, by hand: a second body partition at 3,561 = 0DE9h, whose
     // partition before is at 3,289 = 0CD9h, with a segment of 162 = A2h bytes behind 148 = 94h bytes of
@@ -288,6 +245,7 @@ mod tests {
             let mut out = [0xee; 124];
             put_partition(&partition, &mut out);
             assert_eq!(rt; out, changed(changes), "{name}");
+            assert_eq!(rt; read_partition(&out), Ok(partition), "{name}, read");
         }
     }
 }
