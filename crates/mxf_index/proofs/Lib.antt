@@ -1,2 +1,15 @@
+pub mod ConverseLemmas
+pub mod DueLemmas
+pub mod EntriesLemmas
 pub mod EntryLemmas
+pub mod ExactLemmas
+pub mod FoundLemmas
+pub mod NumberLemmas
+pub mod RangeLemmas
+pub mod ReadBackLemmas
+pub mod SaidLemmas
+pub mod SegmentIsLemmas
+pub mod SegmentLemmas
+pub mod StandLemmas
+pub mod ValueLemmas
 pub mod WriteLemmas

@@ -22,13 +22,13 @@ use mxf_names::{
 use rec_bytes::{Config, put_bytes, put_u8, put_u16, put_u32, put_u64};
 
 /// Bytes of the eight items before the arrays.
-const OPENING_LEN: usize = 8 * ITEM_HEAD_LEN + (16 + 8 + 8 + 8 + 4 + 4 + 4 + 1);
+pub(crate) const OPENING_LEN: usize = 8 * ITEM_HEAD_LEN + (16 + 8 + 8 + 8 + 4 + 4 + 4 + 1);
 
 /// Bytes of an array before its entries.
 const ARRAY_HEAD_LEN: usize = ITEM_HEAD_LEN + BATCH_HEAD_LEN;
 
 /// Bytes of the array of one delta entry.
-const DELTAS_LEN: usize = ARRAY_HEAD_LEN + DELTA_SIZE as usize;
+pub(crate) const DELTAS_LEN: usize = ARRAY_HEAD_LEN + DELTA_SIZE as usize;
 
 /// Bytes of the item behind the arrays.
 const CLOSING_LEN: usize = ITEM_HEAD_LEN + 1;
@@ -189,6 +189,7 @@ fn put_closing(out: &mut [u8], at: usize) -> usize
 #[cfg(test)]
 mod tests {
     use super::*;
+    use crate::example::BYTES;
     use rec_bytes::read_config;
     use std::process::Abort;
 
@@ -207,19 +208,6 @@ mod tests {
         sets: [0x33; 8],
         index: [1, 2, 3, 4, 5, 6, 7, 8],
     };
-
-    // docs/FORMATS.md, "Index table segments": the example, written by hand.
-    const BYTES: [u8; 173] = [
-        0x06, 0x0e, 0x2b, 0x34, 0x02, 0x53, 0x01, 0x01, 0x0d, 0x01, 0x02, 0x01, 0x01, 0x10, 0x01,
-        0x00, 0x83, 0x00, 0x00, 0x99, 0x3c, 0x0a, 0x00, 0x10, 1, 2, 3, 4, 5, 6, 7, 8, 0, 0, 0, 0,
-        0, 0, 0, 0, 0x3f, 0x0b, 0x00, 0x08, 0, 0, 0, 25, 0, 0, 0, 1, 0x3f, 0x0c, 0x00, 0x08, 0, 0,
-        0, 0, 0, 0, 0, 0, 0x3f, 0x0d, 0x00, 0x08, 0, 0, 0, 0, 0, 0, 0, 3, 0x3f, 0x05, 0x00, 0x04,
-        0, 0, 0, 0, 0x3f, 0x06, 0x00, 0x04, 0, 0, 0, 2, 0x3f, 0x07, 0x00, 0x04, 0, 0, 0, 1, 0x3f,
-        0x08, 0x00, 0x01, 0, 0x3f, 0x09, 0x00, 0x0e, 0, 0, 0, 1, 0, 0, 0, 6, 0, 0, 0, 0, 0, 0,
-        0x3f, 0x0a, 0x00, 0x29, 0, 0, 0, 3, 0, 0, 0, 11, 0, 0, 0x80, 0, 0, 0, 0, 0, 0, 0, 0, 0, 0,
-        0x80, 0, 0, 0, 0, 0, 0, 0, 74, 0, 0, 0x80, 0, 0, 0, 0, 0, 0, 0, 148, 0x3f, 0x0e, 0x00,
-        0x01, 0,
-    ];
 
     fn small(rt: &impl Abort) -> Config {
         read_config(&SMALL).expect(rt, "the example is a configuration")
