@@ -1,0 +1,8 @@
+mod AreaLemmas
+mod DiskLemmas
+mod DiskNumbers
+mod LogLemmas
+mod MemoryLemmas
+mod PickLemmas
+mod RedoneLemmas
+mod SoundLemmas

@@ -1,0 +1,9 @@
+pub mod Calls
+pub mod Entered
+pub mod Held
+pub mod Logs
+pub mod Picks
+pub mod Recorded
+pub mod Tickets
+pub mod inner
+pub mod laws

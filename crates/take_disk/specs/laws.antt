@@ -1,0 +1,3 @@
+pub mod LogLaws
+pub mod MemoryLaws
+pub mod Untold
