@@ -1,0 +1,12 @@
+pub mod Broken
+pub mod BrokenMetadata
+pub mod Clauses
+pub mod Contents
+pub mod FirstBroken
+pub mod Firsts
+pub mod Kept
+pub mod KeptMetadata
+pub mod Metadata
+pub mod Op1a
+pub mod Partitions
+pub mod Whole
