@@ -1,0 +1,29 @@
+//! What is true of every closed file of the layout.
+
+ghost use Rattle.std.specs.Prelude.{◌≡◌, ℕ, List};
+ghost use Rattle.klv.specs.Items.{AreItems};
+ghost use Rattle.rec_bytes.specs.Configuration.{Fields};
+ghost use Rattle.rec_bytes.specs.Ranges.{IsInRange};
+ghost use Rattle.take_layout.specs.Takes.{AreUnits};
+ghost use Rattle.mxf_take_file.specs.Items.{closed_items};
+ghost use Rattle.mxf_take_file.specs.Layout.{closed, is_unit};
+ghost use Rattle.mxf_op1a.specs.Op1a.{IsOp1a, units_in};
+
+use mxf_index::segments_are_read_back;
+use mxf_metadata::metadata_holds;
+use mxf_partitions::packs_read_back;
+
+/// The closed file of a take is an OP1a file of the take's units, and what the layout makes it of are items whose elements
+/// have these units. It does nothing: its clauses are the law.
+pub fn closed_files_are_op1a()
+    ensures file { (cfg : Fields) (units : List (List ℕ)) → IsInRange cfg → AreUnits (is_unit cfg) cfg.max_frames units
+        → IsOp1a (closed cfg units) units }
+    ensures items { (cfg : Fields) (units : List (List ℕ)) → IsInRange cfg → AreUnits (is_unit cfg) cfg.max_frames units
+        → AreItems (closed cfg units) (closed_items cfg units) }
+    ensures units { (cfg : Fields) (units : List (List ℕ)) → IsInRange cfg → AreUnits (is_unit cfg) cfg.max_frames units
+        → units_in (closed_items cfg units) ≡ units }
+{
+    packs_read_back();
+    segments_are_read_back();
+    metadata_holds();
+}
