@@ -1,0 +1,10 @@
+pub mod KeptLemmas
+pub mod DiskLemmas
+pub mod MarkLemmas
+pub mod StandLemmas
+pub mod WalkLemmas
+pub mod PartLemmas
+pub mod SeenLemmas
+pub mod FileLemmas
+pub mod RuleLemmas
+pub mod OrderLemmas

@@ -1,0 +1,7 @@
+pub mod Marks
+pub mod Kept
+pub mod Parts
+pub mod Walks
+pub mod Seen
+pub mod Files
+pub mod Rules

@@ -1,0 +1,65 @@
+-- The clauses of OP1a, over what is kept of a file (own). Private functions alone cite this.
+use Rattle.std.specs.Prelude.{ℕ, ◌-◌, ◌==◌, ◌&&◌, nat_lt, Bool, if◌then◌else◌, List, [], ◌∷◌, Option, Some, None}
+use Rattle.mxf_op1a.specs.Clauses.{is_body, is_closed, is_footer, is_header, is_open}
+use Rattle.mxf_reader.specs.declared.clauses.Rule.{Rule}
+use Rattle.mxf_reader.specs.declared.clauses.Rule.TheVariants.{Places, Offset, Lengths}
+use Rattle.mxf_reader.specs.declared.mark.Kind.{Kind}
+use Rattle.mxf_reader.specs.declared.mark.Kind.TheVariants.{Filler, PartitionPack, PrimerPack, MetadataSet, IndexSegment, RandomIndexPack, EssenceElement, Unknown}
+use Rattle.mxf_reader.specs.declared.mark.Mark.{Mark}
+use Rattle.mxf_reader.specs.declared.part.SeenPart.{SeenPart}
+use Rattle.mxf_reader.specs.inner.Parts.{place_or}
+
+-- the bytes of a run, by where it begins, what ends it and where the partition ends
+abbrev pub run_len : Option ℕ → Option ℕ → ℕ → ℕ
+run_len None until end = 0
+run_len (Some at) until end = place_or end until - at
+
+-- a partition keeps a rule, where the pack before stands here
+abbrev pub keeps : Rule → ℕ → SeenPart → Bool
+keeps Places before p = p.pack.this == p.at && p.pack.previous == before
+keeps Offset before p = p.pack.body_offset == p.due
+keeps Lengths before p =
+    p.pack.header_bytes == run_len p.primer p.primer_end p.end && p.pack.index_bytes == run_len p.segment p.segment_end p.end
+
+-- the place of the first partition that doesn't keep it
+unfoldable pub first_bad : Rule → ℕ → List SeenPart → Option ℕ
+first_bad rule before [] = None
+first_bad rule before (p ∷ ps) = if keeps rule before p then first_bad rule p.at ps else Some p.at
+
+-- the file's length, where the last item is no random index pack
+abbrev pub end_by : ℕ → Kind → Option ℕ
+end_by len RandomIndexPack = None
+end_by len Filler = Some len
+end_by len (PartitionPack pack) = Some len
+end_by len PrimerPack = Some len
+end_by len MetadataSet = Some len
+end_by len IndexSegment = Some len
+end_by len EssenceElement = Some len
+end_by len Unknown = Some len
+
+abbrev pub end_seen : ℕ → Option Mark → Option ℕ
+end_seen len None = Some len
+end_seen len (Some m) = end_by len m.kind
+
+-- where the file isn't items with a random index pack at their end
+abbrev pub seen_1 : ℕ → ℕ → Option Mark → Option ℕ
+seen_1 stop len last = if nat_lt stop len then Some stop else end_seen len last
+
+-- an open header, a closed footer that names itself
+abbrev pub is_first_kept : SeenPart → Bool
+is_first_kept p = is_header p.pack.kind && is_open p.pack.status
+
+abbrev pub is_last_kept : SeenPart → Bool
+is_last_kept p = is_footer p.pack.kind && is_closed p.pack.status && p.pack.footer == p.at
+
+-- the first behind the header that is no body, or the last where it is no such footer
+unfoldable pub bad_behind : List SeenPart → Option ℕ
+bad_behind [] = None
+bad_behind (p ∷ []) = if is_last_kept p then None else Some p.at
+bad_behind (p ∷ q ∷ ps) = if is_body p.pack.kind then bad_behind (q ∷ ps) else Some p.at
+
+-- the first partition that is of another kind than it should be
+abbrev pub seen_4 : ℕ → List SeenPart → Option ℕ
+seen_4 len [] = Some len
+seen_4 len (p ∷ []) = Some p.at
+seen_4 len (p ∷ q ∷ ps) = if is_first_kept p then bad_behind (q ∷ ps) else Some p.at
