@@ -90,6 +90,24 @@ impl<'a> BitWriter<'a> {
         Ok(())
     }
 
+    /// Whether so many bits more have room.
+    #[inline(always)]
+    pub fn fits(&self, bits: u32) -> Result<(), Full>
+        ensures accepted { IsOk result ↔ (bits ≤ room self.now) }
+
+        ensures refused { IfErr result (Overfills self.now bits) }
+    {
+        let free = self.out.len() - self.at;
+        let waiting = u64::from(self.count);
+        if free < (self.count as usize + bits as usize + 7) / 8 {
+            return Err(Full {
+                need: u64::from(bits),
+                room: 8 * free as u64 - waiting,
+            });
+        }
+        Ok(())
+    }
+
     /// Adds 0 to 7 zero bits up to a whole byte, and answers the bytes used.
     pub fn pad(self) -> usize
         ensures { Pads self.entry result self.exit.0.now }
@@ -155,6 +173,8 @@ mod tests {
             assert_eq!(rt; writer.put(n, value), Ok(()), "{n} bits");
         }
         assert_eq!(rt; writer.put(14, 1), Err(Full { need: 14, room: 13 }));
+        assert_eq!(rt; writer.fits(13), Ok(()));
+        assert_eq!(rt; writer.fits(14), Err(Full { need: 14, room: 13 }));
         assert_eq!(rt; writer.pad(), 7);
         assert_eq!(rt; bytes, [0xab, 0xcd, 0x12, 0x34, 0x56, 0x78, 0xa0, 0xee]);
     }

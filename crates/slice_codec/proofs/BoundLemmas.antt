@@ -20,13 +20,13 @@ use Rattle.slice_codec.specs.laws.CodedLaws.{slice_len}
 use Rattle.slice_codec.proofs.ChoiceLemmas.{NoneFits}
 
 -- the numbers that half steps tell are those of the levels
-numbers_are : (scale : ℕ) (half_steps : List ℕ) → AreLevels half_steps scale (numbers_at scale half_steps)
+pub numbers_are : (scale : ℕ) (half_steps : List ℕ) → AreLevels half_steps scale (numbers_at scale half_steps)
 numbers_are scale half_steps k lt g weight some is =
     ap (λ (n : ℕ). signed_of n) (get_or-map (λ (v : ℕ). 2 * size_at scale v + v % 2) half_steps k 0 0 lt)
     ∙ level_from_half_steps g weight scale (slice_index half_steps k) some is
 
 -- a part has no fewer bits than the bound of its half steps
-part_low : (setup : Setup) (index : ℕ) (plane : Plane) (blocks : List (List ℕ)) (half_steps bits : List ℕ) → 1 ≤ index → 64 ≤ length half_steps
+pub part_low : (setup : Setup) (index : ℕ) (plane : Plane) (blocks : List (List ℕ)) (half_steps bits : List ℕ) → 1 ≤ scale_of index → 64 ≤ length half_steps
     → IsWeighed setup plane blocks half_steps → IsSpelledPart setup index plane blocks bits
     → part_bound (scale_of index) (length half_steps / 64) half_steps ≤ length bits
 part_low setup index plane blocks half_steps bits some long weighed part =
@@ -38,7 +38,7 @@ part_low setup index plane blocks half_steps bits some long weighed part =
     let same : part.levels ≡ signed_levels numbers = levels_are_one setup.scan (weights_of setup plane) scale blocks part.levels (signed_levels numbers) part.quantised are in
     let spelled : IsSpelled (length blocks) (signed_levels numbers) bits = subst (λ (levels : List ℤ). IsSpelled (length blocks) levels bits) same part.spelled in
     subst (λ (n : ℕ). part_bound scale n half_steps ≤ length bits) (sym count)
-    (part_bound_is_low scale (length blocks) half_steps bits (scale_is_some index some) (omega (arith, long, weighed.long)) weighed.long spelled)
+    (part_bound_is_low scale (length blocks) half_steps bits some (omega (arith, long, weighed.long)) weighed.long spelled)
 
 -- an index at which the bound passes the room is none at which the slice fits
 pub none_pass : (setup : Setup) (count : ℕ) (samples : List (List ℕ)) (room first to : ℕ) (y cb cr : List ℕ) → 1 ≤ first
@@ -51,9 +51,9 @@ none_pass setup count samples room first to y cb cr some y_are cb_are cr_are pas
       fits.2,
       pass i least most,
       slice_len i slice.y slice.cb slice.cr fits.0 slice.joined,
-      part_low setup i Y (blocks_in samples Y count) y slice.y (omega (arith, some, least)) y_are.some weighed.y_weighed slice.y_spelled,
-      part_low setup i Cb (blocks_in samples Cb count) cb slice.cb (omega (arith, some, least)) cb_are.some weighed.cb_weighed slice.cb_spelled,
-      part_low setup i Cr (blocks_in samples Cr count) cr slice.cr (omega (arith, some, least)) cr_are.some weighed.cr_weighed slice.cr_spelled,
+      part_low setup i Y (blocks_in samples Y count) y slice.y (scale_is_some i (omega (arith, some, least))) y_are.some weighed.y_weighed slice.y_spelled,
+      part_low setup i Cb (blocks_in samples Cb count) cb slice.cb (scale_is_some i (omega (arith, some, least))) cb_are.some weighed.cb_weighed slice.cb_spelled,
+      part_low setup i Cr (blocks_in samples Cr count) cr slice.cr (scale_is_some i (omega (arith, some, least))) cr_are.some weighed.cr_weighed slice.cr_spelled,
     ))
 
 -- the bound doesn't rise with the index

@@ -6,3 +6,4 @@ pub mod WritingLemmas
 pub mod ChoiceLemmas
 pub mod FlatLemmas
 pub mod BoundLemmas
+pub mod LeastLemmas

@@ -34,19 +34,13 @@ are_chroma setup index cb_blocks cr_blocks a b xs ys room rest within cb cr = re
   cr_padded = rw (drop_mid a xs ys within) cr.written;
 }
 
--- the first of two has no room
-pub first_passes : (setup : Setup) (index : ℕ) (cb_blocks cr_blocks : List (List ℕ)) (room : ℕ) (xs : List ℕ)
-    → IsWritten setup index Cb cb_blocks room None xs → ChromaPasses setup index cb_blocks cr_blocks room
-first_passes setup index cb_blocks cr_blocks room xs none cb cr cb_part cr_part =
-    omega (arith, part_passes setup index Cb cb_blocks room xs cb none cb_part)
-
 -- the second has no room behind the first
-pub second_passes : (setup : Setup) (index : ℕ) (cb_blocks cr_blocks : List (List ℕ)) (room rest a : ℕ) (xs ys : List ℕ)
+pub second_passes : (setup : Setup) (index : ℕ) (cb_blocks cr_blocks : List (List ℕ)) (room front rest a : ℕ) (xs ys : List ℕ)
     → length xs ≡ room → rest ≡ room - a → a ≤ length xs
-    → IsWritten setup index Cb cb_blocks room (Some a) xs → IsWritten setup index Cr cr_blocks rest None ys
+    → IsWritten setup index Cb cb_blocks front (Some a) xs → IsWritten setup index Cr cr_blocks rest None ys
     → ChromaPasses setup index cb_blocks cr_blocks room
-second_passes setup index cb_blocks cr_blocks room rest a xs ys long left within first none cb cr cb_part cr_part =
-    let used = part_length setup index Cb cb_blocks room a xs cb first within cb_part in
+second_passes setup index cb_blocks cr_blocks room front rest a xs ys long left within first none cb cr cb_part cr_part =
+    let used = part_length setup index Cb cb_blocks front a xs cb first within cb_part in
     omega (arith, used, part_passes setup index Cr cr_blocks rest ys cr none cr_part)
 
 -- three parts
@@ -61,16 +55,12 @@ are_parts setup index count samples a b c xs ys room within y chroma = record {
   chroma = rw (drop_mid a xs ys within) chroma;
 }
 
-pub luma_passes : (setup : Setup) (index count : ℕ) (samples : List (List ℕ)) (room : ℕ) (xs : List ℕ)
-    → IsWritten setup index Y (blocks_in samples Y count) room None xs → PartsPass setup index count samples room
-luma_passes setup index count samples room xs none y cb cr y_part cb_part cr_part =
-    omega (arith, part_passes setup index Y (blocks_in samples Y count) room xs y none y_part)
-
-pub chroma_passes : (setup : Setup) (index count : ℕ) (samples : List (List ℕ)) (room rest a : ℕ) (xs : List ℕ)
+-- the last two have no room behind the first
+pub chroma_passes : (setup : Setup) (index count : ℕ) (samples : List (List ℕ)) (room front rest a : ℕ) (xs : List ℕ)
     → length xs ≡ room → rest ≡ room - a → a ≤ length xs
-    → IsWritten setup index Y (blocks_in samples Y count) room (Some a) xs
+    → IsWritten setup index Y (blocks_in samples Y count) front (Some a) xs
     → ChromaPasses setup index (blocks_in samples Cb count) (blocks_in samples Cr count) rest
     → PartsPass setup index count samples room
-chroma_passes setup index count samples room rest a xs long left within first none y cb cr y_part cb_part cr_part =
-    let used = part_length setup index Y (blocks_in samples Y count) room a xs y first within y_part in
+chroma_passes setup index count samples room front rest a xs long left within first none y cb cr y_part cb_part cr_part =
+    let used = part_length setup index Y (blocks_in samples Y count) front a xs y first within y_part in
     omega (arith, used, none cb cr cb_part cr_part)

@@ -5,7 +5,7 @@ ghost use Rattle.slice_codec.specs.Setups.{Setup};
 ghost use Rattle.slice_codec.specs.inner.Weighed.{AreHalves, IsWeighedSlice, most_bits};
 ghost use Rattle.slice_codec.specs.inner.Written.{IsChosenSlice};
 
-use crate::search::first_possible;
+use crate::search::{Bounds, first_possible};
 use crate::writing::write_slice;
 use prores_codes::Pairs;
 
@@ -44,15 +44,16 @@ pub fn write_chosen(
         → IsChosenSlice setup count samples rule.room rule.first rule.last (take result out.new) }
     ensures few { 8 * result ≤ 48 + most_bits y.now + most_bits cb.now + most_bits cr.now }
 {
-    let possible = first_possible(y, cb, cr, rule, hint);
-    for index in possible..rule.last {
+    let start = first_possible(y, cb, cr, rule, hint);
+    for index in start.index..rule.last {
+        let bounds = start.bounds.at(index);
         let lent = &mut out[..rule.room];
-        match write_slice(tables, y, cb, cr, index, numbers, lent) {
+        match write_slice(tables, y, cb, cr, index, &bounds, numbers, lent) {
             Some(used) => return used,
             None => {}
         }
     }
-    match write_slice(tables, y, cb, cr, rule.last, numbers, out) {
+    match write_slice(tables, y, cb, cr, rule.last, &Bounds::none(), numbers, out) {
         Some(used) => used,
         None => unreachable!(),
     }

@@ -4,21 +4,24 @@ ghost use Rattle.std.specs.Prelude.{◌≡◌, ◌<◌, ◌≤◌, ◌+◌, ◌*
 ghost use Rattle.prores_scan.specs.WeightsAndScales.{scale_of};
 ghost use Rattle.slice_codec.specs.Setups.{Setup};
 ghost use Rattle.slice_codec.specs.Coded.{IsSliceAt};
+ghost use Rattle.slice_codec.specs.inner.Bounded.{AreLeast};
 ghost use Rattle.slice_codec.specs.inner.Weighed.{AreHalves, IsWeighedSlice, most_bits};
 ghost use Rattle.slice_codec.specs.inner.Written.{SlicePasses};
 
 use crate::parts::write_parts;
+use crate::search::Bounds;
 use prores_codes::Pairs;
 use prores_scan::{Reciprocal, scale};
 
-/// Writes the slice of half steps at an index, and answers its bytes, or none where they don't fit. `numbers` is room for
-/// the levels.
+/// Writes the slice of half steps at an index, and answers its bytes, or none where they don't fit. It stops where what the
+/// parts have left at least by `bounds` has no room. `numbers` is room for the levels.
 pub fn write_slice(
     tables: &Pairs,
     y: &[u16],
     cb: &[u16],
     cr: &[u16],
     index: u8,
+    bounds: &Bounds,
     numbers: &mut [u16; 2048],
     out: &mut [u8],
 ) -> Option<usize>
@@ -26,6 +29,7 @@ pub fn write_slice(
     requires cb { AreHalves cb.now }
     requires cr { AreHalves cr.now }
     requires index { (1 ≤ index) × (index ≤ 224) }
+    requires least { AreLeast (scale_of index) y.now cb.now cr.now bounds.now }
     ensures written { (setup : Setup) (count : ℕ) (samples : List (List ℕ)) → IsWeighedSlice setup count samples y.now cb.now cr.now
         → IfSome result (λ used. IsSliceAt setup count samples index (take used out.new)) }
     ensures within { IfSome result (λ used. used ≤ length out.new) }
@@ -39,7 +43,8 @@ pub fn write_slice(
         return None;
     }
     let double = double_scale(index);
-    let (y_len, cb_len, cr_len) = write_parts(tables, y, cb, cr, double, numbers, &mut out[6..])?;
+    let parts = &mut out[6..];
+    let (y_len, cb_len, cr_len) = write_parts(tables, y, cb, cr, double, bounds, numbers, parts)?;
     put_head(index, y_len as u16, cb_len as u16, out);
     Some(6 + y_len + cb_len + cr_len)
 }

@@ -22,7 +22,7 @@ marked zero = 0
 marked (suc n) = 1
 
 pub cost_low : (size run : ℕ)
-    → marked size + marked size + marked size + gap 1 size run + gap 2 size run + gap 4 size run + gap 6 size run + passed 10 size ≤ cost run size
+    → marked size + marked size + marked size + gap 1 size run + gap 2 size run + gap 3 size run + gap 6 size run + gap 8 size run + gap 16 size run + passed 10 size ≤ cost run size
 unfolding least_size least_run
 cost_low zero run = omega arith
 cost_low (suc n) run =

@@ -1,9 +1,9 @@
 -- Marks near a place, and the runs that they tell.
-use Rattle.std.proofs.Common.{◌≡◌, ◌⊎◌, inl, inr, ℕ, zero, suc, ◌+◌, ◌-◌, ◌*◌, ◌/◌, ◌%◌, ◌^◌, ◌≤◌, ◌<◌, ◌∙◌, arith, ap, sym, List, length, slice_index, bit_and, bit_or, count_ones, w64, max}
+use Rattle.std.proofs.Common.{◌≡◌, ◌⊎◌, inl, inr, ℕ, zero, suc, ◌+◌, ◌-◌, ◌*◌, ◌/◌, ◌%◌, ◌^◌, ◌≤◌, ◌<◌, ◌∙◌, arith, ap, sym, List, length, slice_index, bit_and, bit_or, count_ones, w64, max, min}
 use Rattle.std.specs.Int.{bit_at, bit_not}
 use Rattle.std.proofs.lemmas.Bool.{cases_lt}
-use Rattle.std.proofs.lemmas.Nat.{and_le_l, shr-shr, shr_split, pow_pos}
-use Rattle.std.proofs.lemmas.Nat.Bits.{bit_at_and, bit_at_or, bit_at_not, bit_at-lt, bit_at_cat_low, bit_at_cat_high}
+use Rattle.std.proofs.lemmas.Nat.{and_le_l, and_le_r, shr-shr, shr_split, pow_pos}
+use Rattle.std.proofs.lemmas.Nat.Bits.{bit_at_and, bit_at_or, bit_at_not, bit_at-lt, bit_at-zero, bit_at_cat_low, bit_at_cat_high}
 use Rattle.slice_parts.specs.laws.LeastBits.{reached}
 use Rattle.slice_parts.specs.inner.Counted.{sum_to, run_at, gap, AreSome, Carries, AreClear, AreNear, IsBack}
 use Rattle.slice_parts.proofs.CountLemmas.{ones_low}
@@ -20,7 +20,7 @@ moved_bit marks j k =
     let there : k + j - j ≡ k = omega arith in
     ap (λ (n : ℕ). bit_at n (k + j)) (sym plain) ∙ (bit_at_cat_high marks j 0 (k + j) (pow_pos j) (omega arith) ∙ ap (λ (n : ℕ). bit_at marks n) there)
 
-pub back_is : (marks before j : ℕ) → j ≤ 6 → IsBack marks before j (bit_or (marks * 2 ^ j % 2 ^ 64) (before / 2 ^ (64 - j)))
+pub back_is : (marks before j : ℕ) → j ≤ 8 → IsBack marks before j (bit_or (marks * 2 ^ j % 2 ^ 64) (before / 2 ^ (64 - j)))
 back_is marks before j few = record {
   here = λ i k lt e none.
       let both = sym (bit_at_or (marks * 2 ^ j % 2 ^ 64) (before / 2 ^ (64 - j)) i) ∙ none in
@@ -57,6 +57,58 @@ near_more marks before j near word some are is i lt none = record {
     back p p_lt reach (inl last) = is.back i p lt p_lt (omega (arith, reach, last)) right
     back p p_lt reach (inr nearer) = (are i lt left).back p p_lt (omega (arith, nearer, some))
 
+-- a bit below those that were moved in is 0
+low_bit : (x j i : ℕ) → i < j → bit_at (x * 2 ^ j) i ≡ 0
+low_bit x j i lt =
+    let plain : x * 2 ^ j + 0 ≡ x * 2 ^ j = omega arith in
+    ap (λ (n : ℕ). bit_at n i) (sym plain) ∙ (bit_at_cat_low x j 0 i lt ∙ bit_at-zero i)
+
+-- a bit that is set in a word that was moved up stood so many places lower
+moved_from : (x j i : ℕ) → i < 64 → bit_at (x * 2 ^ j % 2 ^ 64) i ≡ 1 → (k : ℕ) × (k + j ≡ i) × (bit_at x k ≡ 1)
+moved_from x j i lt set = cases (cases_lt i j)
+  where
+    whole : bit_at (x * 2 ^ j) i ≡ 1
+    whole = sym (kept_bit (x * 2 ^ j) 64 i lt) ∙ set
+
+    cases : (i < j) ⊎ (j ≤ i) → (k : ℕ) × (k + j ≡ i) × (bit_at x k ≡ 1)
+    cases (inl low) = absurd (omega (arith, whole, low_bit x j i low))
+    cases (inr high) =
+        let there : i - j + j ≡ i = omega (arith, high) in
+        (i - j, there, sym (moved_bit x j (i - j)) ∙ (ap (λ (n : ℕ). bit_at (x * 2 ^ j) n) there ∙ whole))
+
+-- no mark is near a place, nor near the one that is as far before it
+pub near_far : (marks before r near clear : ℕ) → near < 2 ^ 64 → clear ≡ bit_not w64 near → AreNear marks before r near
+    → AreNear marks before (r + r) (bit_not w64 (bit_and clear (clear * 2 ^ r % 2 ^ 64)))
+near_far marks before r near clear small is are i lt none = record {
+  here = λ k k_lt reach. here k k_lt reach (cases_lt k lower.0);
+  back = λ p p_lt reach. (are lower.0 (omega (arith, lower.1, lt)) below).back p p_lt (omega (arith, lower.1, reach));
+}
+  where
+    word : ℕ
+    word = bit_and clear (clear * 2 ^ r % 2 ^ 64)
+
+    short : word < 2 ^ 64
+    short = omega (arith, and_le_r clear (clear * 2 ^ r % 2 ^ 64))
+
+    set : min (bit_at clear i) (bit_at (clear * 2 ^ r % 2 ^ 64) i) ≡ 1
+    set = sym (bit_at_and clear (clear * 2 ^ r % 2 ^ 64) i) ∙ omega (arith, none, bit_at_not w64 word i short (omega (arith, lt)), bit_at-lt word i)
+
+    one : (k : ℕ) → k < 64 → bit_at clear k ≡ 1 → bit_at near k ≡ 0
+    one k k_lt e = omega (arith, e, ap (λ (n : ℕ). bit_at n k) is, bit_at_not w64 near k small (omega (arith, k_lt)))
+
+    lower : (k : ℕ) × (k + r ≡ i) × (bit_at clear k ≡ 1)
+    lower = moved_from clear r i lt (omega (arith, set, bit_at-lt clear i, bit_at-lt (clear * 2 ^ r % 2 ^ 64) i))
+
+    above : bit_at near i ≡ 0
+    above = one i lt (omega (arith, set, bit_at-lt clear i, bit_at-lt (clear * 2 ^ r % 2 ^ 64) i))
+
+    below : bit_at near lower.0 ≡ 0
+    below = one lower.0 (omega (arith, lower.1, lt)) lower.2
+
+    here : (k : ℕ) → k < i → i ≤ k + (r + r) → (k < lower.0) ⊎ (lower.0 ≤ k) → bit_at marks k ≡ 0
+    here k k_lt reach (inl low) = (are lower.0 (omega (arith, lower.1, lt)) below).here k low (omega (arith, lower.1, reach))
+    here k k_lt reach (inr high) = (are i lt above).here k k_lt (omega (arith, lower.1, high))
+
 -- none is nearer than the next
 pub near_none : (marks before : ℕ) → AreNear marks before 0 0
 near_none marks before i lt none = record {
@@ -73,7 +125,7 @@ unmarked sizes n marks i are lt none = cases (cases_lt (slice_index sizes i) 1)
     cases (inr large) = absurd (omega (arith, none, (are.each i lt).1 large))
 
 -- where no mark is near the run is long
-pub clear_run : (marks before r n run i : ℕ) (sizes : List ℕ) → r ≤ 6 → n ≤ length sizes → i ≤ n → Carries before run → AreSome sizes n marks
+pub clear_run : (marks before r n run i : ℕ) (sizes : List ℕ) → r ≤ 16 → n ≤ length sizes → i ≤ n → Carries before run → AreSome sizes n marks
     → AreClear marks before i r → r ≤ run_at i run sizes
 clear_run marks before r n run i sizes few long inside carries are clear =
     run_long r i run sizes (omega (arith, inside, long)) (λ k lt near. unmarked sizes n marks k are (omega (arith, lt, inside)) (clear.here k lt near))
@@ -83,7 +135,7 @@ gap_some : (r size run : ℕ) → 1 ≤ size → r ≤ run → 1 ≤ gap r size 
 gap_some r zero run some long = absurd (omega (arith, some))
 gap_some r (suc n) run some long = omega (arith, reached r run long)
 
-pub gaps_low : (marks near before r n run : ℕ) (sizes : List ℕ) → near < 2 ^ 64 → r ≤ 6 → n ≤ 64 → n ≤ length sizes → AreNear marks before r near
+pub gaps_low : (marks near before r n run : ℕ) (sizes : List ℕ) → near < 2 ^ 64 → r ≤ 16 → n ≤ 64 → n ≤ length sizes → AreNear marks before r near
     → Carries before run → AreSome sizes n marks
     → count_ones (bit_and marks (bit_not w64 near)) ≤ sum_to n (λ i. gap r (slice_index sizes i) (run_at i run sizes))
 gaps_low marks near before r n run sizes small few wide long are carries some =

@@ -191,7 +191,7 @@ pairs_zeros s before at numbers bits (suc n) inside none is =
     subst (λ (k : ℕ). ArePairsOf s (before + suc n) (drop k (signed_levels numbers)) bits) b (subst (λ (k : ℕ). ArePairsOf s k (drop (at + n + 1) (signed_levels numbers)) bits) a more)
 
 -- where zeros go on up to a place they are a run
-pairs_to : (s : PairState) (next place : ℕ) (numbers : List ℕ) (bits : List ℕ) → next ≤ place → place ≤ length numbers → ((e : ℕ) → next ≤ e → e < place → slice_index numbers e ≤ 1)
+pub pairs_to : (s : PairState) (next place : ℕ) (numbers : List ℕ) (bits : List ℕ) → next ≤ place → place ≤ length numbers → ((e : ℕ) → next ≤ e → e < place → slice_index numbers e ≤ 1)
     → ArePairsOf s 0 (drop next (signed_levels numbers)) bits → ArePairsOf s (place - next) (drop place (signed_levels numbers)) bits
 pairs_to s next place numbers bits order inside none is =
     let a : 0 + (place - next) ≡ place - next = omega arith in

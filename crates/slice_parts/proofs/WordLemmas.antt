@@ -97,7 +97,8 @@ sizes_long half_steps scale from =
 -- the counts of a word of entries, together
 pub word_low : (sizes : List ℕ) (n run marks gaps bits : ℕ) → n ≤ length sizes → AreSome sizes n marks
     → gaps ≤ sum_to n (λ i. gap 1 (slice_index sizes i) (run_at i run sizes)) + sum_to n (λ i. gap 2 (slice_index sizes i) (run_at i run sizes))
-    + sum_to n (λ i. gap 4 (slice_index sizes i) (run_at i run sizes)) + sum_to n (λ i. gap 6 (slice_index sizes i) (run_at i run sizes))
+    + sum_to n (λ i. gap 3 (slice_index sizes i) (run_at i run sizes)) + sum_to n (λ i. gap 6 (slice_index sizes i) (run_at i run sizes))
+    + sum_to n (λ i. gap 8 (slice_index sizes i) (run_at i run sizes)) + sum_to n (λ i. gap 16 (slice_index sizes i) (run_at i run sizes))
     → bits ≤ sum_to n (λ i. passed 10 (slice_index sizes i))
     → 3 * count_ones marks + gaps + bits + ac_bound (run_at n run sizes) (drop n sizes) ≤ ac_bound run sizes
 word_low sizes n run marks gaps bits inside some gaps_few bits_few =
@@ -111,10 +112,27 @@ word_low sizes n run marks gaps bits inside some gaps_few bits_few =
     let b = sum_add n (λ i. m i + m i) m in
     let c = sum_add n (λ i. m i + m i + m i) (g 1) in
     let d = sum_add n (λ i. m i + m i + m i + g 1 i) (g 2) in
-    let e = sum_add n (λ i. m i + m i + m i + g 1 i + g 2 i) (g 4) in
-    let f = sum_add n (λ i. m i + m i + m i + g 1 i + g 2 i + g 4 i) (g 6) in
-    let h = sum_add n (λ i. m i + m i + m i + g 1 i + g 2 i + g 4 i + g 6 i) p in
-    omega (arith, ones, a, b, c, d, e, f, h, gaps_few, bits_few, front_low n (λ i. m i + m i + m i + g 1 i + g 2 i + g 4 i + g 6 i + p i) run sizes inside (λ i lt. cost_low (size i) (at i)))
+    let e = sum_add n (λ i. m i + m i + m i + g 1 i + g 2 i) (g 3) in
+    let f = sum_add n (λ i. m i + m i + m i + g 1 i + g 2 i + g 3 i) (g 6) in
+    let h = sum_add n (λ i. m i + m i + m i + g 1 i + g 2 i + g 3 i + g 6 i) (g 8) in
+    let j = sum_add n (λ i. m i + m i + m i + g 1 i + g 2 i + g 3 i + g 6 i + g 8 i) (g 16) in
+    let k = sum_add n (λ i. m i + m i + m i + g 1 i + g 2 i + g 3 i + g 6 i + g 8 i + g 16 i) p in
+    omega (
+      arith,
+      ones,
+      a,
+      b,
+      c,
+      d,
+      e,
+      f,
+      h,
+      j,
+      k,
+      gaps_few,
+      bits_few,
+      front_low n (λ i. m i + m i + m i + g 1 i + g 2 i + g 3 i + g 6 i + g 8 i + g 16 i + p i) run sizes inside (λ i lt. cost_low (size i) (at i)),
+    )
   where
     mark_some : (s : ℕ) → 1 ≤ s → 1 ≤ marked s
     mark_some zero one = absurd (omega (arith, one))

@@ -2,15 +2,20 @@
 use Rattle.std.specs.Prelude.{◌≡◌, ◌<◌, ◌≤◌, ◌+◌, ◌-◌, ◌*◌, ◌/◌, ◌%◌, ℕ, zero, suc, ℤ, ◌-ℤ◌, List, [], ◌∷◌, length, take, drop, map, slice_index, if◌then◌else◌, nat_le}
 use Rattle.std.specs.Int.RustNames.{unsigned_abs}
 use Rattle.prores_scan.specs.ScaledLevels.{signed_of}
+use Rattle.slice_parts.specs.Pairs.{PairState, ArePairsOf}
 use Rattle.slice_parts.specs.Component.{level_at}
 
 -- 1 where a number reaches a limit
 abbrev pub reaches : ℕ → ℕ → ℕ
 reaches limit n = if nat_le limit n then 1 else 0
 
--- the fewest bits of a run below 12, by whichever code; a greater one has more
+-- how many bits the code behind a run saves at most, where the next run is long: behind a run below 4 it saves none
+unfoldable pub saved : ℕ → ℕ
+saved run = reaches 4 run + reaches 15 run
+
+-- the fewest bits of a run by a code that saves none, less those that the code behind it may save; of a run from 32 on there are more
 unfoldable pub least_run : ℕ → ℕ
-least_run run = 1 + reaches 1 run + reaches 2 run + reaches 4 run + reaches 6 run
+least_run run = 1 + reaches 1 run + reaches 2 run + reaches 3 run + reaches 6 run + reaches 8 run + reaches 16 run
 
 -- the fewest bits of a size less one below 124, by whichever code; a greater one has more
 unfoldable pub least_size : ℕ → ℕ
@@ -59,7 +64,13 @@ changes_at scale [] = []
 changes_at scale (v ∷ []) = []
 changes_at scale (v ∷ w ∷ half_steps) = change_at scale v w ∷ changes_at scale (w ∷ half_steps)
 
--- a number of bits that the spelling of a part of so many blocks has at least at a scale, from its half steps
+-- a number of bits that the spelling of a part of so many blocks has at least at a scale, from its half steps: the first DC
+-- level has 6, and the first run's code may save one
 abbrev pub part_bound : ℕ → ℕ → List ℕ → ℕ
 part_bound scale blocks half_steps =
-    6 + dc_bound (changes_at scale (take blocks half_steps)) + ac_bound 0 (map (λ v. size_at scale v) (drop blocks half_steps))
+    5 + dc_bound (changes_at scale (take blocks half_steps)) + ac_bound 0 (map (λ v. size_at scale v) (drop blocks half_steps))
+
+-- no spelling of the levels from the first entry of each 64 on has fewer bits, whatever pair and zeros stand before
+abbrev pub AreLeft : List ℤ → List ℕ → Type 0
+AreLeft levels left =
+    (word before : ℕ) (state : PairState) (bits : List ℕ) → word < length left → ArePairsOf state before (drop (64 * word) levels) bits → slice_index left word ≤ length bits

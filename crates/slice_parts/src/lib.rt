@@ -23,7 +23,7 @@ mod short_pairs;
 mod short_part;
 mod symbols;
 
-pub use bound::least_bits;
+pub use bound::{Least, least_bits};
 pub use fault::PartFault;
 pub use part::{read_part, read_part_with, write_part, write_part_with};
 pub use short_part::read_short_part;

@@ -10,6 +10,7 @@ ghost use Rattle.prores_scan.specs.ScaledLevels.{signed_of};
 ghost use Rattle.slice_parts.specs.Pairs.{PairSpells, ArePairsOf, pair_state, pair_of, first_pair, sign_bit};
 ghost use Rattle.prores_scan.specs.HalfSteps.{AreAtMost};
 ghost use Rattle.slice_parts.specs.Component.{signed_levels};
+ghost use Rattle.slice_parts.specs.Bound.{AreLeft};
 ghost use Rattle.slice_parts.specs.Faults.{NoPair, PairsBreak};
 ghost use Rattle.slice_parts.specs.inner.Marks.{AreDue, size_before};
 ghost use Rattle.slice_parts.specs.inner.Progress.{ReadsOne, HasPairs};
@@ -23,9 +24,11 @@ use prores_codes::{
 use prores_scan::reached;
 
 /// Writes the pairs of a part's AC levels, each given as a size with its sign as the last bit. Tables make short pairs
-/// faster.
+/// faster. `left` tells how many bits are left at least behind each 64 entries: where they have no room no more is
+/// written.
 pub fn write_pairs(
     tables: Option<&Pairs>,
+    left: &[u16; 33],
     numbers: &[u16],
     blocks: usize,
     out: &mut BitWriter<'_>,
@@ -33,6 +36,7 @@ pub fn write_pairs(
     requires blocks { (1 ≤ blocks) × (blocks ≤ 32) }
     requires long { length numbers.now ≡ 64 * blocks }
     requires small { AreAtMost (2 ^ 14 + 1) numbers.now }
+    requires left { AreLeft (signed_levels numbers.now) left.now }
     ensures same_reference { lender out.new ≡ lender out.old }
     ensures accepted { (s : List ℕ) → ArePairsOf first_pair 0 (drop blocks (signed_levels numbers.now)) s → (IsOk result ↔ (length s ≤ room out.old)) }
     ensures spelled { (s : List ℕ) → ArePairsOf first_pair 0 (drop blocks (signed_levels numbers.now)) s → OnOk result (Puts out.old out.new s) }
@@ -55,6 +59,7 @@ pub fn write_pairs(
             next = place + 1;
             marks = marks & (marks - 1);
         }
+        out.fits(u32::from(left[word + 1]))?;
     }
     Ok(())
 }

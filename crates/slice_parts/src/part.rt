@@ -5,8 +5,10 @@ ghost use Rattle.bit_io.specs.Bits.{bits_of, bytes_for};
 ghost use Rattle.bit_io.specs.Written.{lender, room, Puts};
 ghost use Rattle.prores_scan.specs.HalfSteps.{AreAtMost};
 ghost use Rattle.slice_parts.specs.Component.{signed_levels, IsSpelled, IsComponent, IsPadded};
+ghost use Rattle.slice_parts.specs.Bound.{AreLeft};
 ghost use Rattle.slice_parts.specs.Faults.{Breaks};
 
+use crate::bound::Least;
 use crate::dc::{read_dc, write_dc};
 use crate::fault::PartFault;
 use crate::pairs::{read_pairs, write_pairs};
@@ -25,12 +27,14 @@ pub fn write_part(numbers: &[u16], blocks: usize, out: &mut [u8]) -> Option<usiz
     ensures used { (s : List ℕ) → IsSpelled blocks (signed_levels numbers.now) s → IfSome result (λ used. used ≡ bytes_for (length s)) }
     ensures within { IfSome result (λ used. used ≤ length out.new) }
 {
-    write_by(None, numbers, blocks, out)
+    write_by(None, &Least::none().left, numbers, blocks, out)
 }
 
-/// `write_part` with the tables of short pairs, which are made once: faster, and the same bytes.
+/// `write_part` with the tables of short pairs, which are made once, and with what is left of the part at least (`Least`),
+/// so that it stops early where it doesn't fit: faster, and the same bytes.
 pub fn write_part_with(
     tables: &Pairs,
+    left: &[u16; 33],
     numbers: &[u16],
     blocks: usize,
     out: &mut [u8],
@@ -38,25 +42,33 @@ pub fn write_part_with(
     requires blocks { (1 ≤ blocks) × (blocks ≤ 32) }
     requires long { length numbers.now ≡ 64 * blocks }
     requires small { AreAtMost (2 ^ 14 + 1) numbers.now }
+    requires left { AreLeft (signed_levels numbers.now) left.now }
     ensures accepted { (s : List ℕ) → IsSpelled blocks (signed_levels numbers.now) s → (IsSome result ↔ (bytes_for (length s) ≤ length out.old)) }
     ensures written { (s : List ℕ) → IsSpelled blocks (signed_levels numbers.now) s → IfSome result (λ used. IsPadded s (take used out.new)) }
     ensures used { (s : List ℕ) → IsSpelled blocks (signed_levels numbers.now) s → IfSome result (λ used. used ≡ bytes_for (length s)) }
     ensures within { IfSome result (λ used. used ≤ length out.new) }
 {
-    write_by(Some(tables), numbers, blocks, out)
+    write_by(Some(tables), left, numbers, blocks, out)
 }
 
-fn write_by(tables: Option<&Pairs>, numbers: &[u16], blocks: usize, out: &mut [u8]) -> Option<usize>
+fn write_by(
+    tables: Option<&Pairs>,
+    left: &[u16; 33],
+    numbers: &[u16],
+    blocks: usize,
+    out: &mut [u8],
+) -> Option<usize>
     requires blocks { (1 ≤ blocks) × (blocks ≤ 32) }
     requires long { length numbers.now ≡ 64 * blocks }
     requires small { AreAtMost (2 ^ 14 + 1) numbers.now }
+    requires left { AreLeft (signed_levels numbers.now) left.now }
     ensures accepted { (s : List ℕ) → IsSpelled blocks (signed_levels numbers.now) s → (IsSome result ↔ (bytes_for (length s) ≤ length out.old)) }
     ensures written { (s : List ℕ) → IsSpelled blocks (signed_levels numbers.now) s → IfSome result (λ used. IsPadded s (take used out.new)) }
     ensures used { (s : List ℕ) → IsSpelled blocks (signed_levels numbers.now) s → IfSome result (λ used. used ≡ bytes_for (length s)) }
     ensures within { IfSome result (λ used. used ≤ length out.new) }
 {
     let mut writer = BitWriter::new(out);
-    match put_part(tables, numbers, blocks, &mut writer) {
+    match put_part(tables, left, numbers, blocks, &mut writer) {
         Ok(()) => Some(writer.pad()),
         Err(_) => None,
     }
@@ -65,6 +77,7 @@ fn write_by(tables: Option<&Pairs>, numbers: &[u16], blocks: usize, out: &mut [u
 /// Puts a part's bits.
 fn put_part(
     tables: Option<&Pairs>,
+    left: &[u16; 33],
     numbers: &[u16],
     blocks: usize,
     out: &mut BitWriter<'_>,
@@ -72,12 +85,13 @@ fn put_part(
     requires blocks { (1 ≤ blocks) × (blocks ≤ 32) }
     requires long { length numbers.now ≡ 64 * blocks }
     requires small { AreAtMost (2 ^ 14 + 1) numbers.now }
+    requires left { AreLeft (signed_levels numbers.now) left.now }
     ensures same_reference { lender out.new ≡ lender out.old }
     ensures accepted { (s : List ℕ) → IsSpelled blocks (signed_levels numbers.now) s → (IsOk result ↔ (length s ≤ room out.old)) }
     ensures spelled { (s : List ℕ) → IsSpelled blocks (signed_levels numbers.now) s → OnOk result (Puts out.old out.new s) }
 {
     write_dc(&numbers[..blocks], out)?;
-    write_pairs(tables, numbers, blocks, out)?;
+    write_pairs(tables, left, numbers, blocks, out)?;
     Ok(())
 }
 
@@ -246,7 +260,7 @@ mod tests {
         let numbers = &mut all[..64 * blocks];
         put_numbers(entries, numbers);
         match tables {
-            Some(tables) => write_part_with(tables, numbers, blocks, out),
+            Some(tables) => write_part_with(tables, &Least::none().left, numbers, blocks, out),
             None => write_part(numbers, blocks, out),
         }
     }

@@ -1,7 +1,7 @@
 -- How the bound of a part is counted, 64 entries at a time (own).
-use Rattle.std.specs.Prelude.{◌≡◌, ◌<◌, ◌≤◌, ◌+◌, ◌^◌, ◌↔◌, ℕ, zero, suc, List, [], ◌∷◌, slice_index}
+use Rattle.std.specs.Prelude.{◌≡◌, ◌<◌, ◌≤◌, ◌+◌, ◌^◌, ◌↔◌, ℕ, zero, suc, List, [], ◌∷◌, drop, map, slice_index}
 use Rattle.std.specs.Int.{bit_at}
-use Rattle.slice_parts.specs.Bound.{reaches, least_run, least_size, size_at}
+use Rattle.slice_parts.specs.Bound.{reaches, least_run, least_size, size_at, ac_bound}
 use Rattle.slice_parts.specs.declared.bound.TheConstants.{GROWN}
 
 -- the sum of a function's first values
@@ -41,9 +41,13 @@ pub record AreSome (sizes : List ℕ) (count marks : ℕ) : Type 0 where
   pub small : marks < 2 ^ count
   pub each : (i : ℕ) → i < count → (bit_at marks i ≡ 1) ↔ (1 ≤ slice_index sizes i)
 
--- the run goes on through the marks of the 64 sizes before, as far as these have no mark, but for more than six
+-- the run goes on through the marks of the 64 sizes before, as far as these have no mark, but for more than sixteen
 abbrev pub Carries : ℕ → ℕ → Type 0
-Carries before run = (r : ℕ) → r ≤ 6 → ((p : ℕ) → p < 64 → 64 ≤ p + r → bit_at before p ≡ 0) → r ≤ run
+Carries before run = (r : ℕ) → r ≤ 16 → ((p : ℕ) → p < 64 → 64 ≤ p + r → bit_at before p ≡ 0) → r ≤ run
+
+-- so many bits are counted at most of the levels from a place on, behind any run that goes on through these marks
+abbrev pub Tail : List ℕ → ℕ → ℕ → ℕ → ℕ → Type 0
+Tail half_steps scale from bits before = (run : ℕ) → Carries before run → bits ≤ ac_bound run (drop from (map (λ v. size_at scale v) half_steps))
 
 -- the r marks before a place are 0, of which the first ones are those of the 64 sizes before
 pub record AreClear (marks before i r : ℕ) : Type 0 where

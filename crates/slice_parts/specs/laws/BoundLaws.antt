@@ -8,18 +8,21 @@ use Rattle.slice_parts.specs.Dc.{turned, IsDc}
 use Rattle.slice_parts.specs.Dc.DcState.{First, Behind}
 use Rattle.slice_parts.specs.Pairs.{PairState, PairSpells, ArePairsOf, pair_state, pair_of, first_pair, sign_bit}
 use Rattle.slice_parts.specs.Component.{IsSpelled, level_at}
-use Rattle.slice_parts.specs.Bound.{least_run, least_size, ac_bound, dc_bound, AreChanges, AreNoGreater}
+use Rattle.slice_parts.specs.Bound.{saved, least_run, least_size, ac_bound, dc_bound, AreChanges, AreNoGreater}
 use Rattle.slice_parts.specs.laws.PairSteps.{pairs_zero, pairs_level}
-use Rattle.slice_parts.specs.laws.LeastBits.{size_some, size_grows, change_grows, joins}
+use Rattle.slice_parts.specs.laws.LeastBits.{size_some, size_grows, change_grows, joins, saved_four, run_most, run_some}
 use Rattle.slice_parts.specs.laws.LeastByCode.{run_is_low, size_is_low, change_is_low, first_is_low}
 
-pair_low : (s : PairState) (before n : ℕ) (x : ℤ) (bits : List ℕ) → unsigned_abs x ≡ suc n → PairSpells s bits (pair_of before x) → 1 + least_size n + least_run before ≤ length bits
+pair_low : (s : PairState) (before n : ℕ) (x : ℤ) (bits : List ℕ) → unsigned_abs x ≡ suc n → PairSpells s bits (pair_of before x)
+    → 1 + least_size n + least_run before + saved before ≤ length bits + saved s.run
 pair_low s before n x bits size is =
     let less : unsigned_abs x - 1 ≡ n = omega (arith, size) in
     let low : least_size n ≤ length is.size = subst (λ (k : ℕ). least_size k ≤ length is.size) less (size_is_low s.size_less_one is.size (unsigned_abs x - 1) is.size_spelled) in
     omega (arith, low, run_is_low s.run is.run before is.run_spelled, ap length is.joined, length-append is.run (is.size ++ sign_bit x ∷ []), length-append is.size (sign_bit x ∷ []))
 
-pairs_low : (levels : List ℤ) (s : PairState) (before : ℕ) (bits : List ℕ) → ArePairsOf s before levels bits → ac_bound before (map unsigned_abs levels) ≤ length bits
+-- pairs have no fewer bits than the bound, but for those that the first run's code may save
+pub pairs_low : (levels : List ℤ) (s : PairState) (before : ℕ) (bits : List ℕ) → ArePairsOf s before levels bits
+    → ac_bound before (map unsigned_abs levels) ≤ length bits + saved s.run
 pairs_low [] s before bits is = omega arith
 pairs_low (pos zero ∷ levels) s before bits is = pairs_low levels s (before + 1) bits (pairs_zero s before 0 (pos zero ∷ levels) bits (omega arith) refl is)
 pairs_low (pos (suc n) ∷ levels) s before bits is =
@@ -63,12 +66,13 @@ first_low (x ∷ levels) changes bits far is =
 
 -- the spelling has no fewer bits than the bound
 pub bound_is_low : (blocks : ℕ) (levels : List ℤ) (bits : List ℕ) (changes : List ℕ) → IsSpelled blocks levels bits → AreChanges (take blocks levels) changes
-    → 6 + dc_bound changes + ac_bound 0 (map unsigned_abs (drop blocks levels)) ≤ length bits
+    → 5 + dc_bound changes + ac_bound 0 (map unsigned_abs (drop blocks levels)) ≤ length bits
 bound_is_low blocks levels bits changes is far =
     omega (
       arith,
       first_low (take blocks levels) changes is.part.one far is.part.head,
       pairs_low (drop blocks levels) first_pair 0 is.part.rest is.part.tail,
+      saved_four,
       ap length is.part.joined,
       length-append is.part.one is.part.rest,
     )
@@ -124,3 +128,8 @@ with_credit credit r s (suc n ∷ ys) (suc m ∷ xs) has less =
 -- smaller levels have no greater bound
 pub ac_bound_falls : (ys xs : List ℕ) → AreNoGreater ys xs → ac_bound 0 ys ≤ ac_bound 0 xs
 ac_bound_falls ys xs less = omega (arith, with_credit 0 0 0 ys xs (λ k. omega arith) less)
+
+-- whatever run stands before, the bound is the same but for six
+pub any_run : (r s : ℕ) (sizes : List ℕ) → ac_bound r sizes ≤ ac_bound s sizes + 6
+any_run r s sizes =
+    with_credit 6 r s sizes sizes (λ k. omega (arith, run_most (r + k), run_some (s + k))) (record { long = refl; each = λ k lt. omega arith })

@@ -1,12 +1,12 @@
 -- Laws of the fewest bits by each code of the format: proved here, for proofs to cite.
-use Rattle.std.proofs.Common.{◌≡◌, ℕ, ◌+◌, ◌-◌, ◌*◌, ◌/◌, ◌^◌, ◌<◌, ◌≤◌, List, length, arith, Bool, true, false, if◌then◌else◌, nat_lt, ◌⊎◌, inl, inr}
-use Rattle.std.proofs.lemmas.Bool.{cases_lt}
+use Rattle.std.proofs.Common.{◌≡◌, ℕ, ◌+◌, ◌-◌, ◌*◌, ◌/◌, ◌^◌, ◌<◌, ◌≤◌, List, length, arith, refl, Bool, true, false, if◌then◌else◌, nat_lt, ◌⊎◌, inl, inr}
+use Rattle.std.proofs.lemmas.Bool.{cases_lt, ltb-false}
 use Rattle.prores_codes.specs.Codes.{Parameters, Spells, HasDigits, combination, order}
 use Rattle.prores_codes.specs.Choices.{dc_parameters, run_parameters, level_parameters}
 use Rattle.prores_codes.specs.laws.Digits.{pow_le, digits_more}
 use Rattle.prores_codes.specs.laws.Lengths.{IsLength, length_is}
-use Rattle.slice_parts.specs.Bound.{least_run, least_size, least_change}
-use Rattle.slice_parts.specs.laws.LeastBits.{run_below, size_below, change_below}
+use Rattle.slice_parts.specs.Bound.{saved, least_run, least_size, least_change}
+use Rattle.slice_parts.specs.laws.LeastBits.{saved_some, saved_two, run_below, size_below, change_below}
 
 -- a number of few digits is small
 under : (d k m : ℕ) → HasDigits d m → d ≤ k → m < 2 ^ k
@@ -30,81 +30,147 @@ either : (least : ℕ → ℕ) (b : Bool) (p q : Parameters) → Low least p →
 either least true p q h k = h
 either least false p q h k = k
 
-run_201 : Low least_run (combination 2 0 1)
+-- a run has no fewer bits by this code than by one that saves none, but for so many
+abbrev LowBut : ℕ → Parameters → Type 0
+LowBut extra p = (s : List ℕ) (n : ℕ) → Spells p s n → least_run n + saved n ≤ length s + extra
+
+run_201 : LowBut 0 (combination 2 0 1)
 run_201 s n by =
-    low_by 2 0 1 n (length s) (least_run n) (length_is (combination 2 0 1) s n by)
-    (λ h. short h (cases_lt n 1) (cases_lt n 2))
-    (λ d h has. omega (arith, h, (run_below n).most, digits_more d 1 (n - 3 + 2) has (omega (arith, h))))
+    omega (
+      arith,
+      low_by 2 0 1 n (length s) (least_run n + saved n) (length_is (combination 2 0 1) s n by)
+          (λ h. short h (cases_lt n 1) (cases_lt n 2))
+          (λ d h has. long d h has (cases_lt d 3) (cases_lt d 4)),
+    )
   where
-    short : n < 3 → (n < 1) ⊎ (1 ≤ n) → (n < 2) ⊎ (2 ≤ n) → least_run n ≤ n / 1 + 1
-    short h (inl lt) y = omega (arith, (run_below n).one lt)
-    short h (inr ge) (inl lt) = omega (arith, ge, (run_below n).two lt)
-    short h (inr ge) (inr two) = omega (arith, two, (run_below n).four (omega (arith, h)))
+    short : n < 3 → (n < 1) ⊎ (1 ≤ n) → (n < 2) ⊎ (2 ≤ n) → least_run n + saved n ≤ n / 1 + 1
+    short h (inl lt) y = omega (arith, (run_below n).under_1 lt)
+    short h (inr ge) (inl lt) = omega (arith, ge, (run_below n).under_2 lt)
+    short h (inr ge) (inr two) = omega (arith, two, (run_below n).under_3 h)
 
-run_101 : Low least_run (combination 1 0 1)
-run_101 s n by =
-    low_by 1 0 1 n (length s) (least_run n) (length_is (combination 1 0 1) s n by)
-    (λ h. short h (cases_lt n 1))
-    (λ d h has. long d h has (cases_lt d 3))
-  where
-    short : n < 2 → (n < 1) ⊎ (1 ≤ n) → least_run n ≤ n / 1 + 1
-    short h (inl lt) = omega (arith, (run_below n).one lt)
-    short h (inr ge) = omega (arith, ge, (run_below n).two h)
-
-    long : (d : ℕ) → 2 ≤ n → HasDigits d (n - 2 + 2) → (d < 3) ⊎ (3 ≤ d) → least_run n + 1 ≤ 1 + 2 * d
-    long d h has (inl lt) =
-        omega (arith, h, digits_more d 1 (n - 2 + 2) has (omega (arith, h)), (run_below n).four (omega (arith, h, under d 2 (n - 2 + 2) has (omega (arith, lt)))))
-    long d h has (inr ge_3) =
-        omega (arith, h, ge_3, (run_below n).most)
-
-run_001 : Low least_run (order 0)
-run_001 s n by =
-    low_by 0 0 1 n (length s) (least_run n) (length_is (order 0) s n by)
-    (λ h. omega (arith, h, (run_below n).one (omega (arith, h))))
-    (λ d h has. long d h has (cases_lt d 3))
-  where
-    long : (d : ℕ) → 1 ≤ n → HasDigits d (n - 1 + 2) → (d < 3) ⊎ (3 ≤ d) → least_run n + 1 ≤ 0 + 2 * d
-    long d h has (inl lt) =
-        omega (arith, h, digits_more d 1 (n - 1 + 2) has (omega (arith, h)), (run_below n).four (omega (arith, h, under d 2 (n - 1 + 2) has (omega (arith, lt)))))
-    long d h has (inr ge_3) =
-        omega (arith, h, ge_3, (run_below n).most)
-
-run_012 : Low least_run (order 1)
-run_012 s n by =
-    low_by 0 1 2 n (length s) (least_run n) (length_is (order 1) s n by)
-    (λ h. omega (arith, h, (run_below n).two (omega (arith, h))))
-    (λ d h has. long d h has (cases_lt d 4))
-  where
-    long : (d : ℕ) → 2 ≤ n → HasDigits d (n - 2 + 4) → (d < 4) ⊎ (4 ≤ d) → least_run n + 2 ≤ 0 + 2 * d
-    long d h has (inl lt) =
-        omega (arith, h, digits_more d 2 (n - 2 + 4) has (omega (arith, h)), (run_below n).six (omega (arith, h, under d 3 (n - 2 + 4) has (omega (arith, lt)))))
-    long d h has (inr ge_4) =
+    long : (d : ℕ) → 3 ≤ n → HasDigits d (n - 3 + 2) → (d < 3) ⊎ (3 ≤ d) → (d < 4) ⊎ (4 ≤ d) → least_run n + saved n + 1 ≤ 2 + 2 * d
+    long d h has (inl lt) y =
+        omega (arith, h, digits_more d 1 (n - 3 + 2) has (omega (arith, h)), (run_below n).under_6 (omega (arith, h, under d 2 (n - 3 + 2) has (omega (arith, lt)))))
+    long d h has (inr ge_3) (inl lt) =
+        omega (arith, h, ge_3, (run_below n).under_15 (omega (arith, h, under d 3 (n - 3 + 2) has (omega (arith, lt)))))
+    long d h has (inr ge_3) (inr ge_4) =
         omega (arith, h, ge_4, (run_below n).most)
 
-run_112 : Low least_run (combination 1 1 2)
-run_112 s n by =
-    low_by 1 1 2 n (length s) (least_run n) (length_is (combination 1 1 2) s n by)
-    (λ h. short h (cases_lt n 2))
-    (λ d h has. omega (arith, h, (run_below n).most, digits_more d 2 (n - 4 + 4) has (omega (arith, h))))
+run_101 : LowBut 0 (combination 1 0 1)
+run_101 s n by =
+    omega (
+      arith,
+      low_by 1 0 1 n (length s) (least_run n + saved n) (length_is (combination 1 0 1) s n by)
+          (λ h. short h (cases_lt n 1))
+          (λ d h has. long d h has (cases_lt d 3) (cases_lt d 4) (cases_lt d 5)),
+    )
   where
-    short : n < 4 → (n < 2) ⊎ (2 ≤ n) → least_run n ≤ n / 2 + 2
-    short h (inl lt) = omega (arith, (run_below n).two lt)
-    short h (inr ge) = omega (arith, ge, (run_below n).four h)
+    short : n < 2 → (n < 1) ⊎ (1 ≤ n) → least_run n + saved n ≤ n / 1 + 1
+    short h (inl lt) = omega (arith, (run_below n).under_1 lt)
+    short h (inr ge) = omega (arith, ge, (run_below n).under_2 h)
 
-run_023 : Low least_run (order 2)
+    long : (d : ℕ) → 2 ≤ n → HasDigits d (n - 2 + 2) → (d < 3) ⊎ (3 ≤ d) → (d < 4) ⊎ (4 ≤ d) → (d < 5) ⊎ (5 ≤ d) → least_run n + saved n + 1 ≤ 1 + 2 * d
+    long d h has (inl lt) x_4 x_5 =
+        omega (arith, h, digits_more d 1 (n - 2 + 2) has (omega (arith, h)), (run_below n).under_4 (omega (arith, h, under d 2 (n - 2 + 2) has (omega (arith, lt)))))
+    long d h has (inr ge_3) (inl lt) x_5 =
+        omega (arith, h, ge_3, (run_below n).under_8 (omega (arith, h, under d 3 (n - 2 + 2) has (omega (arith, lt)))))
+    long d h has (inr ge_3) (inr ge_4) (inl lt) =
+        omega (arith, h, ge_4, (run_below n).under_16 (omega (arith, h, under d 4 (n - 2 + 2) has (omega (arith, lt)))))
+    long d h has (inr ge_3) (inr ge_4) (inr ge_5) =
+        omega (arith, h, ge_5, (run_below n).most)
+
+run_001 : LowBut 1 (order 0)
+run_001 s n by =
+    omega (
+      arith,
+      low_by 0 0 1 n (length s) (least_run n + saved n - 1) (length_is (order 0) s n by)
+          (λ h. omega (arith, h, (run_below n).under_1 (omega (arith, h))))
+          (λ d h has. long d h has (cases_lt d 3) (cases_lt d 4) (cases_lt d 5)),
+    )
+  where
+    long : (d : ℕ) → 1 ≤ n → HasDigits d (n - 1 + 2) → (d < 3) ⊎ (3 ≤ d) → (d < 4) ⊎ (4 ≤ d) → (d < 5) ⊎ (5 ≤ d) → least_run n + saved n - 1 + 1 ≤ 0 + 2 * d
+    long d h has (inl lt) x_4 x_5 =
+        omega (arith, h, digits_more d 1 (n - 1 + 2) has (omega (arith, h)), (run_below n).under_3 (omega (arith, h, under d 2 (n - 1 + 2) has (omega (arith, lt)))))
+    long d h has (inr ge_3) (inl lt) x_5 =
+        omega (arith, h, ge_3, (run_below n).under_8 (omega (arith, h, under d 3 (n - 1 + 2) has (omega (arith, lt)))))
+    long d h has (inr ge_3) (inr ge_4) (inl lt) =
+        omega (arith, h, ge_4, (run_below n).under_15 (omega (arith, h, under d 4 (n - 1 + 2) has (omega (arith, lt)))))
+    long d h has (inr ge_3) (inr ge_4) (inr ge_5) =
+        omega (arith, h, ge_5, (run_below n).most)
+
+run_112 : LowBut 1 (combination 1 1 2)
+run_112 s n by =
+    omega (
+      arith,
+      low_by 1 1 2 n (length s) (least_run n + saved n - 1) (length_is (combination 1 1 2) s n by)
+          (λ h. short h (cases_lt n 2))
+          (λ d h has. long d h has (cases_lt d 4) (cases_lt d 5)),
+    )
+  where
+    short : n < 4 → (n < 2) ⊎ (2 ≤ n) → least_run n + saved n - 1 ≤ n / 2 + 2
+    short h (inl lt) = omega (arith, (run_below n).under_2 lt)
+    short h (inr ge) = omega (arith, ge, (run_below n).under_4 h)
+
+    long : (d : ℕ) → 4 ≤ n → HasDigits d (n - 4 + 4) → (d < 4) ⊎ (4 ≤ d) → (d < 5) ⊎ (5 ≤ d) → least_run n + saved n - 1 + 2 ≤ 1 + 2 * d
+    long d h has (inl lt) x_5 =
+        omega (arith, h, digits_more d 2 (n - 4 + 4) has (omega (arith, h)), (run_below n).under_8 (omega (arith, h, under d 3 (n - 4 + 4) has (omega (arith, lt)))))
+    long d h has (inr ge_4) (inl lt) =
+        omega (arith, h, ge_4, (run_below n).under_16 (omega (arith, h, under d 4 (n - 4 + 4) has (omega (arith, lt)))))
+    long d h has (inr ge_4) (inr ge_5) =
+        omega (arith, h, ge_5, (run_below n).most)
+
+run_012 : LowBut 1 (order 1)
+run_012 s n by =
+    omega (
+      arith,
+      low_by 0 1 2 n (length s) (least_run n + saved n - 1) (length_is (order 1) s n by)
+          (λ h. omega (arith, h, (run_below n).under_2 (omega (arith, h))))
+          (λ d h has. long d h has (cases_lt d 4) (cases_lt d 5)),
+    )
+  where
+    long : (d : ℕ) → 2 ≤ n → HasDigits d (n - 2 + 4) → (d < 4) ⊎ (4 ≤ d) → (d < 5) ⊎ (5 ≤ d) → least_run n + saved n - 1 + 2 ≤ 0 + 2 * d
+    long d h has (inl lt) x_5 =
+        omega (arith, h, digits_more d 2 (n - 2 + 4) has (omega (arith, h)), (run_below n).under_6 (omega (arith, h, under d 3 (n - 2 + 4) has (omega (arith, lt)))))
+    long d h has (inr ge_4) (inl lt) =
+        omega (arith, h, ge_4, (run_below n).under_15 (omega (arith, h, under d 4 (n - 2 + 4) has (omega (arith, lt)))))
+    long d h has (inr ge_4) (inr ge_5) =
+        omega (arith, h, ge_5, (run_below n).most)
+
+run_023 : LowBut 2 (order 2)
 run_023 s n by =
-    low_by 0 2 3 n (length s) (least_run n) (length_is (order 2) s n by)
-    (λ h. omega (arith, h, (run_below n).four (omega (arith, h))))
-    (λ d h has. omega (arith, h, (run_below n).most, digits_more d 3 (n - 4 + 8) has (omega (arith, h))))
+    omega (
+      arith,
+      low_by 0 2 3 n (length s) (least_run n + saved n - 2) (length_is (order 2) s n by)
+          (λ h. omega (arith, h, (run_below n).under_4 (omega (arith, h))))
+          (λ d h has. long d h has (cases_lt d 5)),
+    )
+  where
+    long : (d : ℕ) → 4 ≤ n → HasDigits d (n - 4 + 8) → (d < 5) ⊎ (5 ≤ d) → least_run n + saved n - 2 + 3 ≤ 0 + 2 * d
+    long d h has (inl lt) =
+        omega (arith, h, digits_more d 3 (n - 4 + 8) has (omega (arith, h)), (run_below n).under_15 (omega (arith, h, under d 4 (n - 4 + 8) has (omega (arith, lt)))))
+    long d h has (inr ge_5) =
+        omega (arith, h, ge_5, (run_below n).most)
 
--- the fewest bits of a run are no more than those that each state spells it in
-pub run_is_low : (before : ℕ) (s : List ℕ) (n : ℕ) → Spells (run_parameters before) s n → least_run n ≤ length s
+-- the same of the code behind a run
+abbrev LowBehind : ℕ → Parameters → Type 0
+LowBehind before p = (s : List ℕ) (n : ℕ) → Spells p s n → least_run n + saved n ≤ length s + saved before
+
+either_behind : (before : ℕ) (b : Bool) (p q : Parameters) → (b ≡ true → LowBehind before p) → (b ≡ false → LowBehind before q) → LowBehind before (if b then p else q)
+either_behind before true p q h k = h refl
+either_behind before false p q h k = k refl
+
+but : (extra before : ℕ) (p : Parameters) → extra ≤ saved before → LowBut extra p → LowBehind before p
+but extra before p some low s n by = omega (arith, some, low s n by)
+
+-- a run has no fewer bits than by a code that saves none, but for those that its own code may save
+pub run_is_low : (before : ℕ) (s : List ℕ) (n : ℕ) → Spells (run_parameters before) s n → least_run n + saved n ≤ length s + saved before
 run_is_low before =
-    either least_run (nat_lt before 2) (combination 2 0 1) _ run_201
-    (either least_run (nat_lt before 4) (combination 1 0 1) _ run_101
-    (either least_run (nat_lt before 5) (order 0) _ run_001
-    (either least_run (nat_lt before 9) (combination 1 1 2) _ run_112
-    (either least_run (nat_lt before 15) (order 1) (order 2) run_012 run_023))))
+    either_behind before (nat_lt before 2) (combination 2 0 1) _ (λ e. but 0 before (combination 2 0 1) (omega arith) run_201)
+    (λ e_2. either_behind before (nat_lt before 4) (combination 1 0 1) _ (λ e. but 0 before (combination 1 0 1) (omega arith) run_101)
+    (λ e_4. either_behind before (nat_lt before 5) (order 0) _ (λ e. but 1 before (order 0) (saved_some before (ltb-false before 4 e_4)) run_001)
+    (λ e_5. either_behind before (nat_lt before 9) (combination 1 1 2) _ (λ e. but 1 before (combination 1 1 2) (saved_some before (ltb-false before 4 e_4)) run_112)
+    (λ e_9. either_behind before (nat_lt before 15) (order 1) (order 2) (λ e. but 1 before (order 1) (saved_some before (ltb-false before 4 e_4)) run_012)
+    (λ e_15. but 2 before (order 2) (saved_two before (ltb-false before 15 e_15)) run_023)))))
 
 size_202 : Low least_size (combination 2 0 2)
 size_202 s n by =

@@ -127,6 +127,11 @@ rest_of : (n scale : ℕ) (half_steps : List ℕ) → drop n (signed_levels (num
 rest_of n scale half_steps =
     drop-map signed_of n (numbers_at scale half_steps) ∙ ap (λ (ns : List ℕ). signed_levels ns) (drop-map (λ (v : ℕ). 2 * size_at scale v + v % 2) n half_steps)
 
+-- the sizes of the levels from a place on
+pub sizes_from : (n scale : ℕ) (half_steps : List ℕ) → map unsigned_abs (drop n (signed_levels (numbers_at scale half_steps))) ≡ drop n (map (λ v. size_at scale v) half_steps)
+sizes_from n scale half_steps =
+    ap (λ (xs : List ℤ). map unsigned_abs xs) (rest_of n scale half_steps) ∙ (sizes_are scale (drop n half_steps) ∙ sym (drop-map (λ (v : ℕ). size_at scale v) n half_steps))
+
 -- the spelling of the levels at a scale has no fewer bits than the bound
 pub part_bound_is_low : (scale blocks : ℕ) (half_steps bits : List ℕ) → 1 ≤ scale → 1 ≤ blocks → length half_steps ≡ 64 * blocks
     → IsSpelled blocks (signed_levels (numbers_at scale half_steps)) bits → part_bound scale blocks half_steps ≤ length bits
@@ -137,5 +142,5 @@ part_bound_is_low scale blocks half_steps bits some more long spelled =
     subst (λ (xs : List ℤ). AreChanges xs (changes_at scale (take blocks half_steps))) (sym (front_of blocks scale half_steps)) (some_changes scale (take blocks half_steps) some first) in
     let sizes : map unsigned_abs (drop blocks levels) ≡ map (λ v. size_at scale v) (drop blocks half_steps) =
     ap (λ (xs : List ℤ). map unsigned_abs xs) (rest_of blocks scale half_steps) ∙ sizes_are scale (drop blocks half_steps) in
-    subst (λ (ns : List ℕ). 6 + dc_bound (changes_at scale (take blocks half_steps)) + ac_bound 0 ns ≤ length bits) sizes
+    subst (λ (ns : List ℕ). 5 + dc_bound (changes_at scale (take blocks half_steps)) + ac_bound 0 ns ≤ length bits) sizes
     (bound_is_low blocks levels bits (changes_at scale (take blocks half_steps)) spelled far)

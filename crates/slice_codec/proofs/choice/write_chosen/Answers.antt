@@ -1,5 +1,6 @@
 use Rattle.std.proofs.Common.{rules, ◌≡◌, length, take, drop, arith, refl}
 use Rattle.std.proofs.lemmas.List.{length-take-le}
+use Rattle.prores_scan.specs.WeightsAndScales.{scale_of}
 use Rattle.slice_codec.proofs.BoundLemmas.{none_pass}
 use Rattle.slice_codec.proofs.ChoiceLemmas.{none_more, chosen_fits, chosen_last}
 use Rattle.slice_codec.proofs.choice.write_chosen.Goals as goal
@@ -12,11 +13,17 @@ returns-in-Some-clause-chosen c = λ setup count samples weighed.
     (c.loop-index.invariant.least setup count samples weighed) (search rules) (omega (arith, c.loop-index-test.true))
     (c.in-Some.ensures.written setup count samples weighed) c.in-Some.ensures.within long
 
+pub write_slice-requires-clause-least : goal.write_slice-requires-clause-least
+write_slice-requires-clause-least c = c.at-bounds.ensures c.args.y.now c.args.cb.now c.args.cr.now c.first_possible-start.ensures.least
+
+pub write_slice-requires-2-clause-least : goal.write_slice-requires-2-clause-least
+write_slice-requires-2-clause-least c = c.none.ensures.least (scale_of c.args.rule.last) c.args.y.now c.args.cb.now c.args.cr.now
+
 pub loop-index-init : goal.loop-index-init
 loop-index-init c = record {
   least = λ setup count samples weighed.
-      none_pass setup count samples c.args.rule.room c.args.rule.first c.first_possible-possible.result c.args.y.now c.args.cb.now c.args.cr.now
-      c.requires.some c.requires.y c.requires.cb c.requires.cr c.first_possible-possible.ensures.passed weighed;
+      none_pass setup count samples c.args.rule.room c.args.rule.first c.first_possible-start.result.index c.args.y.now c.args.cb.now c.args.cr.now
+      c.requires.some c.requires.y c.requires.cb c.requires.cr c.first_possible-start.ensures.passed weighed;
   from = search rules;
   long = search rules;
 }

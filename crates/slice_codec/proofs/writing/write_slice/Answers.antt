@@ -1,7 +1,14 @@
-use Rattle.std.proofs.Common.{rules, ◌≡◌, ◌+◌, ◌-◌, length, take, drop, arith, ap, ◌∙◌, refl}
+use Rattle.std.proofs.Common.{rules, ℕ, subst, ◌≡◌, ◌+◌, ◌-◌, length, take, drop, arith, ap, ◌∙◌, refl}
 use Rattle.std.proofs.lemmas.List.{take_rest, length-drop}
+use Rattle.prores_scan.specs.WeightsAndScales.{scale_of}
+use Rattle.slice_codec.specs.inner.Bounded.{AreLeast}
 use Rattle.slice_codec.proofs.WritingLemmas.{slice_passes, lent_slice_is}
 use Rattle.slice_codec.proofs.writing.write_slice.Goals as goal
+
+pub write_parts-requires-clause-least : goal.write_parts-requires-clause-least
+write_parts-requires-clause-least c = λ scale twice.
+    let same : scale_of c.args.index ≡ scale = omega (arith, twice, c.double_scale-double.ensures) in
+    subst (λ (n : ℕ). AreLeast n c.args.y.now c.args.cb.now c.args.cr.now c.args.bounds.now) same c.requires.least
 
 pub returns-in_err-y_len-clause-refused : goal.returns-in_err-y_len-clause-refused
 returns-in_err-y_len-clause-refused c = λ setup count samples weighed none.

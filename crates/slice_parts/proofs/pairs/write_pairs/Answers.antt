@@ -1,4 +1,4 @@
-use Rattle.std.proofs.Common.{◌≡◌, ◌≤◌, ◌<◌, ◌-◌, ◌+◌, ◌*◌, ◌^◌, ℕ, ℤ, drop, length, refl, subst, rules, arith, false, true, slice_index, w64}
+use Rattle.std.proofs.Common.{◌≡◌, ◌≤◌, ◌<◌, ◌-◌, ◌+◌, ◌*◌, ◌^◌, ℕ, ℤ, List, [], drop, length, refl, subst, rules, arith, false, true, slice_index, w64}
 use Rattle.std.specs.Int.{trailing_zeros}
 use Rattle.std.specs.Int.RustNames.{unsigned_abs}
 use Rattle.std.proofs.lemmas.Result.{err_from_is_err_and}
@@ -6,8 +6,8 @@ use Rattle.prores_scan.specs.ScaledLevels.{signed_of}
 use Rattle.slice_parts.specs.Component.{signed_levels}
 use Rattle.slice_parts.specs.Pairs.{PairState, PairSpells, ArePairsOf, pair_state, pair_of}
 use Rattle.slice_parts.specs.inner.Marks.{AreDue, size_before}
-use Rattle.slice_parts.proofs.MarkLemmas.{first_mark, due_word, due_behind, due_none, pairs_marked, pairs_over}
-use Rattle.slice_parts.proofs.WroteLemmas.{wrote_more, wrote_full, wrote_all, never}
+use Rattle.slice_parts.proofs.MarkLemmas.{first_mark, due_word, due_behind, due_none, pairs_marked, pairs_over, pairs_to}
+use Rattle.slice_parts.proofs.WroteLemmas.{wrote_more, wrote_full, wrote_all, alone, never}
 use Rattle.slice_parts.proofs.pairs.write_pairs.Goals as goal
 
 pub loop-marks-init : goal.loop-marks-init
@@ -43,6 +43,23 @@ returns-in_err-row-clause-accepted c = λ s is.
     let full = wrote_full c.args.out.now l.out (ArePairsOf state 0 (drop l.next (signed_levels numbers))) (λ one. PairSpells state one (pair_of (place - l.next) x))
     (ArePairsOf (pair_state (place - l.next) (unsigned_abs x - 1)) 0 (drop (place + 1) (signed_levels numbers))) s
     (l.invariant.wrote s is) (λ rest h. pairs_marked state l.next place numbers rest first.from inside first.some first.none h) (λ one h fits. never ((k one h).1 fits)) in
+    rw p.1 ((λ (e : false ≡ true). absurd (never e)), λ fits. absurd (full fits))
+
+pub returns-in_err-fits-clause-accepted : goal.returns-in_err-fits-clause-accepted
+returns-in_err-fits-clause-accepted c = λ s is.
+    let l = c.loop-marks in
+    let numbers = c.args.numbers.now in
+    let word = c.loop-word.word in
+    let state : PairState = pair_state l.run (size_before l.last) in
+    let due : AreDue numbers (64 * word) l.next 0 = subst (AreDue numbers (64 * word) l.next) c.loop-marks-test.false l.invariant.due in
+    let inside : 64 * (word + 1) ≤ length numbers = omega (arith, c.requires.long, c.loop-word-test.true, c.loop-word.auto.word-end) in
+    let remains = ArePairsOf state 0 (drop l.next (signed_levels numbers)) in
+    let p = err_from_is_err_and c.from_residual-in_err-fits.result c.from_residual-in_err-fits.ensures.1 in
+    let least : (rest : List ℕ) → remains rest → slice_index c.args.left.now (word + 1) ≤ length rest =
+    λ rest h. c.requires.left (word + 1) (64 * (word + 1) - l.next) state rest (omega (arith, c.requires.long, c.requires.blocks, inside))
+    (pairs_to state l.next (64 * (word + 1)) numbers rest (omega (arith, due.few)) inside (λ e from lt. due_none numbers (64 * word) l.next due e from (omega (arith, lt))) h) in
+    let full = wrote_full c.args.out.now l.out remains remains (λ b. b ≡ []) s (l.invariant.wrote s is) (λ rest h. alone remains rest h)
+    (λ rest h fits. never (c.in_err-fits.ensures.accepted.1 (omega (arith, fits, least rest h)))) in
     rw p.1 ((λ (e : false ≡ true). absurd (never e)), λ fits. absurd (full fits))
 
 pub loop-marks-smaller : goal.loop-marks-smaller
