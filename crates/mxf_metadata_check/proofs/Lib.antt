@@ -1,0 +1,12 @@
+pub mod Behind
+pub mod Filed
+pub mod Ids
+pub mod Items
+pub mod Joined
+pub mod Judged
+pub mod Least
+pub mod Naming
+pub mod Numbered
+pub mod Other
+pub mod Sets
+pub mod Walk
