@@ -17,9 +17,7 @@ const FILE: [u8; 75] = [
 ];
 
 #[test]
-fn elements_are_told_by_their_keys_and_fill_is_passed_over(
-    rt: HostRuntime,
-) -> Result<(), Fail> {
+fn elements_are_told_by_their_keys_and_fill_is_passed_over(rt: HostRuntime) -> Result<(), Fail> {
     let mut disk = MemoryDisk::new(rt.alloc(), &FILE, b"", 128, 64, &[], None)?;
     let kept = walk(rt.alloc(), &mut disk).map(|file| {
         let last = file.last.map(|mark| mark.at);
