@@ -15,7 +15,7 @@ use Rattle.run_parts.specs.Statuses.{answer, ending_answer, unit_answer, sink_an
 use Rattle.run_parts.specs.Units.{RefusesUnit}
 use Rattle.run_parts.specs.declared.unit.UnitFault.{UnitFault}
 
--- how often each device of a run has failed; the counts of a disk and of a barrier are fields of this record too, once a command has them
+-- how often each device of a run over a feed has failed
 pub record Counts : Type 0 where
   pub source : ℕ
   pub sink : ℕ

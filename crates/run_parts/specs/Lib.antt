@@ -1,5 +1,6 @@
 pub mod Causes
 pub mod Files
+pub mod Gains
 pub mod Statuses
 pub mod Units
 pub mod inner

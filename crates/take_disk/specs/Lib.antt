@@ -1,4 +1,5 @@
 pub mod Calls
+pub mod Elapsed
 pub mod Entered
 pub mod Held
 pub mod Logs

@@ -1,3 +1,4 @@
 pub mod LogLaws
 pub mod MemoryLaws
+pub mod TimeLaws
 pub mod Untold
