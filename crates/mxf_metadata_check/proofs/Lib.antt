@@ -9,4 +9,5 @@ pub mod Naming
 pub mod Numbered
 pub mod Other
 pub mod Sets
+pub mod Taken
 pub mod Walk

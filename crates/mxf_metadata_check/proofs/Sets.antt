@@ -16,11 +16,11 @@ use Rattle.mxf_op1a.specs.Contents.{Placed, placed_from}
 use Rattle.mxf_op1a.specs.Metadata.{SetAt, lasts, places_but, set_at}
 
 -- the sets of one item and those behind it
-pub set_if : Bool → ℕ → Item → List SetAt
+unfoldable pub set_if : Bool → ℕ → Item → List SetAt
 set_if true at item = set_at (record { at = at; item = item }) ∷ []
 set_if false at item = []
 
-among_step : (at : ℕ) (item : Item) (rest : List Item)
+pub among_step : (at : ℕ) (item : Item) (rest : List Item)
     → sets_among at (item ∷ rest) ≡ set_if (is_set_key item.key) at item ++ sets_among (at + length (spelled item)) rest
 unfolding placed_from set_if
 among_step at item rest =
@@ -28,7 +28,7 @@ among_step at item rest =
     (filter (λ (p : Placed). is_set_key p.item.key) (placed_from (at + length (spelled item)) rest)))
     ≡ set_if b at item ++ sets_among (at + length (spelled item)) rest) [ true ↦ refl | false ↦ refl ]
 
-among_none : (at : ℕ) → sets_among at [] ≡ []
+pub among_none : (at : ℕ) → sets_among at [] ≡ []
 unfolding placed_from
 among_none at = refl
 

@@ -1,3 +1,4 @@
 pub mod Chain
 pub mod Firsts
 pub mod Held
+pub mod Takes

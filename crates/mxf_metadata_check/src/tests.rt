@@ -1,7 +1,7 @@
 //! Rows worked out by hand from docs/formats/mxf.md, "Metadata": places are sums of the lengths of its tables. The metadata
 //! stand in the file from 1000 on.
 
-use crate::{first_other_duration, first_wrong};
+use crate::{first_other_duration, first_wrong, take_id};
 use mxf_metadata::{METADATA, put_metadata};
 use mxf_names::Ids;
 use rec_bytes::{Config, read_config};
@@ -67,5 +67,37 @@ fn the_first_other_duration_is_told(rt: HostRuntime) {
     for (name, place, bytes, count, other) in cases {
         let out = metadata_with(&rt, place, bytes);
         assert_eq!(rt; first_other_duration(&out, 1000, count), other, "{name}");
+    }
+}
+
+/// An identifier of zeros, but for its first and its last byte.
+fn id_with(first: u8, last: u8) -> [u8; 16] {
+    let mut id = [0; 16];
+    id[0] = first;
+    id[15] = last;
+    id
+}
+
+// The material package's value begins at 1470; the second half of its identifier, which is made to end with 5, at 1510.
+#[test]
+fn the_take_is_told_by_the_first_material_package(rt: HostRuntime) {
+    let cases: [(&str, usize, &[u8], [u8; 16]); 7] = [
+        ("as it is", 0, &[], id_with(0, 5)),
+        ("first byte of the half", 1510, &[7], id_with(7, 5)),
+        ("byte before the half", 1509, &[7], id_with(0, 5)),
+        ("no material package", 1464, &[0x23], [0; 16]),
+        ("no identifier", 1490, &[0x12, 0x34], [0; 16]),
+        ("identifier of 31 bytes", 1493, &[31], [0; 16]),
+        (
+            "an earlier material package without one",
+            1116,
+            &[0x36],
+            [0; 16],
+        ),
+    ];
+    for (name, place, bytes, id) in cases {
+        let mut out = metadata_with(&rt, place, bytes);
+        out[1525] = 5;
+        assert_eq!(rt; take_id(&out), id, "{name}");
     }
 }
