@@ -1,5 +1,5 @@
 -- What is kept of a whole file, by the definitions of OP1a.
-use Rattle.std.proofs.Common.{◌≡◌, ℕ, ◌+◌, Bool, true, false, if◌then◌else◌, List, [], ◌∷◌, ◌++◌, length, filter, map, Option, Some, None, refl, sym, ap, ap₂, ◌∙◌}
+use Rattle.std.proofs.Common.{◌≡◌, ℕ, ◌+◌, true, if◌then◌else◌, List, [], ◌∷◌, ◌++◌, length, filter, map, Option, Some, None, refl, sym, ap, ap₂, ◌∙◌}
 use Rattle.std.specs.List.{flat_map}
 use Rattle.mxf_op1a.specs.Clauses.{last_item}
 use Rattle.mxf_op1a.specs.Contents.{Content, Placed, content_of, is_element, is_fill, is_pack, is_segment, placed_from}
@@ -11,15 +11,16 @@ use Rattle.mxf_reader.specs.declared.mark.Kind.{Kind}
 use Rattle.mxf_reader.specs.declared.mark.Kind.TheVariants.{Filler, PartitionPack, PrimerPack, MetadataSet, IndexSegment, RandomIndexPack, EssenceElement, Unknown}
 use Rattle.mxf_reader.specs.declared.mark.Mark.{Mark}
 use Rattle.mxf_reader.specs.declared.part.SeenPart.{SeenPart}
-use Rattle.mxf_reader.specs.declared.seen.SeenElement.{SeenElement}
+use Rattle.take_layout.specs.declared.place.Place.{Place}
 use Rattle.mxf_reader.specs.inner.Files.{AreSeen, IsClosed, IsSeen, mark_if}
 use Rattle.mxf_reader.specs.inner.Kept.{IsKept, element_by, elements_from, front, last, last_by, segment_by, segment_of, seen_element}
 use Rattle.mxf_reader.specs.inner.Marks.{kind_of, mark_of}
 use Rattle.mxf_reader.specs.inner.Parts.{closed_at, element_place, first_of, fresh, is_first, due_behind, pack_next, with_item, going_next}
-use Rattle.mxf_reader.specs.inner.Seen.{seen_parts}
+use Rattle.mxf_reader.specs.inner.Seen.{seen_parts, streams_of}
 use Rattle.mxf_reader.specs.inner.Walks.{AreWalked}
 use Rattle.mxf_reader.proofs.PartLemmas.{first_at}
 use Rattle.mxf_reader.proofs.SeenLemmas.{parts_seen}
+use Rattle.mxf_reader.proofs.StreamLemmas.{place_streams, pushed, streams_seen}
 
 -- behind a pack no element stands before all packs
 front_next : (k : Kind) (p : SeenPart) (m : Mark) (ms : List Mark) → ((q : SeenPart) → front (Some q) ms ≡ None) → front (pack_next k (Some p) m) ms ≡ None
@@ -36,10 +37,6 @@ front_some : (ms : List Mark) (p : SeenPart) → front (Some p) ms ≡ None
 unfolding front
 front_some [] p = refl
 front_some (m ∷ ms) p = front_next m.kind p m ms (λ q. front_some ms q)
-
-pushed : (b : Bool) (x : Placed) (up : List Placed) → elements (if b then [] else x ∷ up) ≡ (if b then [] else elements (x ∷ up))
-pushed true x up = refl
-pushed false x up = refl
 
 front_by : (c : Content) (x : Placed) (ms : List Mark) (es : List Placed) → ((q : SeenPart) → front (Some q) ms ≡ None) → front None ms ≡ first_at es
     → first_of (element_place (kind_of c) x.at) (front (pack_next (kind_of c) None (mark_of x)) ms)
@@ -92,7 +89,7 @@ segments_seen [] = refl
 segments_seen (x ∷ ps) =
     segment_step (content_of x.item) x (flat_map segment_of (map mark_of ps)) (filter (being is_segment) ps) (segments_seen ps)
 
-element_step : (f : SeenElement → ℕ) (g : Placed → ℕ) (c : Content) (so : Option SeenPart) (x : Placed) (es : List SeenElement) (ps : List Placed)
+element_step : (f : Place → ℕ) (g : Placed → ℕ) (c : Content) (so : Option SeenPart) (x : Placed) (es : List Place) (ps : List Placed)
     → f (seen_element so (mark_of x)) ≡ g x → map f es ≡ map g ps
     → map f (element_by (kind_of c) so (mark_of x) ++ es) ≡ map g (if is_element c then x ∷ ps else ps)
 element_step f g Element so x es ps e h = ap₂ (λ (n : ℕ) (ns : List ℕ). n ∷ ns) e h
@@ -104,7 +101,7 @@ element_step f g Segment so x es ps e h = h
 element_step f g RandomIndex so x es ps e h = h
 element_step f g Other so x es ps e h = h
 
-elements_seen : (f : SeenElement → ℕ) (g : Placed → ℕ) → ((so : Option SeenPart) (x : Placed) → f (seen_element so (mark_of x)) ≡ g x)
+elements_seen : (f : Place → ℕ) (g : Placed → ℕ) → ((so : Option SeenPart) (x : Placed) → f (seen_element so (mark_of x)) ≡ g x)
     → (so : Option SeenPart) (ps : List Placed) → map f (elements_from so (map mark_of ps)) ≡ map g (elements ps)
 unfolding elements_from
 elements_seen f g same so [] = refl
@@ -118,10 +115,11 @@ are_seen w len file ps h k = record {
   parts = h.parts ∙ ap₂ (λ (xs : List SeenPart) (so : Option SeenPart). xs ++ closed_at len so) k.closed k.going ∙ parts_seen len ps
       ∙ ap (λ (n : ℕ). seen_parts true 0 (parts n ps)) (sym h.len_is);
   front = h.front ∙ k.front ∙ front_seen ps;
-  values = ap (map (λ (e : SeenElement). e.value_at)) (h.elements ∙ k.elements)
-      ∙ elements_seen (λ e. e.value_at) (λ p. p.at + (17 + p.item.form)) (λ so x. refl) None ps;
-  sizes = ap (map (λ (e : SeenElement). e.value_len)) (h.elements ∙ k.elements)
-      ∙ elements_seen (λ e. e.value_len) (λ p. length p.item.value) (λ so x. refl) None ps;
+  values = ap (map (λ (e : Place). e.at)) (h.elements ∙ k.elements)
+      ∙ elements_seen (λ e. e.at) (λ p. p.at + (17 + p.item.form)) (λ so x. refl) None ps;
+  sizes = ap (map (λ (e : Place). e.len)) (h.elements ∙ k.elements)
+      ∙ elements_seen (λ e. e.len) (λ p. length p.item.value) (λ so x. refl) None ps;
+  streams = ap place_streams (h.elements ∙ k.elements) ∙ streams_seen len ps ∙ ap (λ (n : ℕ). streams_of n ps) (sym h.len_is);
   segments = h.segments ∙ k.segments ∙ segments_seen ps;
   last = h.last ∙ k.last ∙ last_seen None ps;
 }

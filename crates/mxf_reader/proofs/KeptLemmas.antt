@@ -7,7 +7,7 @@ use Rattle.mxf_reader.specs.inner.Parts.{closed_one, first_of, going_next}
 use Rattle.mxf_reader.specs.declared.mark.Mark.{Mark}
 use Rattle.mxf_reader.specs.declared.part.SeenPart.{SeenPart}
 use Rattle.mxf_reader.specs.declared.seen.Seen.{Seen}
-use Rattle.mxf_reader.specs.declared.seen.SeenElement.{SeenElement}
+use Rattle.take_layout.specs.declared.place.Place.{Place}
 
 pub going_more : (so : Option SeenPart) (ms : List Mark) (m : Mark) → going so (ms ++ m ∷ []) ≡ going_next (going so ms) m
 unfolding going
@@ -40,7 +40,7 @@ elements_more : (so : Option SeenPart) (ms : List Mark) (m : Mark) → elements_
 unfolding elements_from going
 elements_more so [] m = append-nil (element_of so m)
 elements_more so (x ∷ ms) m =
-    ap (λ (es : List SeenElement). element_of so x ++ es) (elements_more (going_next so x) ms m)
+    ap (λ (es : List Place). element_of so x ++ es) (elements_more (going_next so x) ms m)
     ∙ sym (append_assoc (element_of so x) (elements_from (going_next so x) ms) (element_of (going (going_next so x) ms) m))
 
 segments_more : (ms : List Mark) (m : Mark) → flat_map segment_of (ms ++ m ∷ []) ≡ flat_map segment_of ms ++ segment_of m
@@ -70,7 +70,7 @@ kept_more s t m ms h n = record {
   closed = n.closed ∙ ap₂ (λ (ps : List SeenPart) (so : Option SeenPart). ps ++ closed_one so m) h.closed h.going ∙ sym (closed_more None ms m);
   going = n.going ∙ ap (λ (so : Option SeenPart). going_next so m) h.going ∙ sym (going_more None ms m);
   front = n.front ∙ ap₂ (λ (o : Option ℕ) (so : Option SeenPart). first_of o (front_place so m)) h.front h.going ∙ sym (front_more None ms m);
-  elements = n.elements ∙ ap₂ (λ (es : List SeenElement) (so : Option SeenPart). es ++ element_of so m) h.elements h.going ∙ sym (elements_more None ms m);
+  elements = n.elements ∙ ap₂ (λ (es : List Place) (so : Option SeenPart). es ++ element_of so m) h.elements h.going ∙ sym (elements_more None ms m);
   segments = n.segments ∙ ap (λ (xs : List Mark). xs ++ segment_of m) h.segments ∙ sym (segments_more ms m);
   last = n.last ∙ ap (λ (so : Option Mark). last_next so m) h.last ∙ sym (last_more None ms m);
 }

@@ -8,3 +8,16 @@ pub mod SeenLemmas
 pub mod FileLemmas
 pub mod RuleLemmas
 pub mod OrderLemmas
+pub mod JudgeLemmas
+pub mod BodyStreamLemmas
+pub mod CatalogueLemmas
+pub mod StreamLemmas
+pub mod InsideLemmas
+pub mod ElementLemmas
+pub mod ItemLemmas
+pub mod NameLemmas
+pub mod SegmentLemmas
+pub mod MetadataRuns
+pub mod MetadataHeld
+pub mod MetadataParts
+pub mod MetadataRules

@@ -125,13 +125,14 @@ clause_3_kept file items h = ap (first_bad Places 0) h.parts ∙ places_kept tru
 pub clause_10_kept : (file : SeenFile) (items : List Placed) → AreSeen items file → first_bad Lengths 0 file.parts.items ≡ broken_10 (parts file.len items)
 clause_10_kept file items h = ap (first_bad Lengths 0) h.parts ∙ lengths_kept true 0 0 (parts file.len items)
 
-length_seen : (first : Bool) (due : ℕ) (ps : List Part) → length (seen_parts first due ps) ≡ length ps
+-- as many are kept
+pub length_seen : (first : Bool) (due : ℕ) (ps : List Part) → length (seen_parts first due ps) ≡ length ps
 unfolding seen_parts
 length_seen first due [] = refl
 length_seen first due (p ∷ ps) = ap (λ (n : ℕ). suc n) (length_seen false (due_with first due p) ps)
 
 -- what is kept of all but the last
-but_last_seen : (due : ℕ) (p : Part) (ps : List Part) → take (length ps) (seen_parts false due (p ∷ ps)) ≡ seen_parts false due (all_but_last p ps)
+pub but_last_seen : (due : ℕ) (p : Part) (ps : List Part) → take (length ps) (seen_parts false due (p ∷ ps)) ≡ seen_parts false due (all_but_last p ps)
 unfolding seen_parts all_but_last
 but_last_seen due p [] = refl
 but_last_seen due p (q ∷ ps) = ap (λ (xs : List SeenPart). seen_part false due p ∷ xs) (but_last_seen (due + stream_len p) q ps)

@@ -30,7 +30,8 @@ pub place_same : (end : ℕ) (items : List Placed) → place_or end (first_place
 place_same end [] = refl
 place_same end (p ∷ ps) = refl
 
-due_same : (first : Bool) (due at : ℕ) (pack : Partition) (items : List Placed) (begin end : ℕ)
+-- what a partition adds to the essence stream
+pub due_same : (first : Bool) (due at : ℕ) (pack : Partition) (items : List Placed) (begin end : ℕ)
     → due_by first (seen_part first due (part at pack items begin)) end ≡ due_with first due (part at pack items end)
 due_same true due at pack items begin end = refl
 due_same false due at pack items begin end = ap (λ (n : ℕ). due + (end - n)) (place_same end (elements items))

@@ -1,29 +1,29 @@
--- What calls that only read leave of a disk (own).
-use Rattle.std.specs.Prelude.{◌≡◌, ◌⊎◌, ℕ}
+-- Why calls that read a take's file fail (own). docs/FORMATS.md, "Statuses".
+use Rattle.std.specs.Prelude.{◌≡◌, ◌≤◌, ◌<◌, ℕ, Result, Ok, Err}
 use Rattle.rec_bytes.specs.Faults.{Rose}
-use Rattle.take_disk.specs.declared.ticket.Ticket.{Ticket}
-use Rattle.take_disk.specs.Held.{Moment, IsBefore, Areas}
 use Rattle.mxf_reader.specs.declared.fault.CheckFault.{CheckFault}
 use Rattle.mxf_reader.specs.declared.fault.CheckFault.TheVariants.{Memory, DiskFault, NotOp1a}
+use Rattle.mxf_reader.specs.declared.fault.UnitFault.{UnitFault}
+use Rattle.mxf_reader.specs.declared.fault.UnitFault.TheVariants.{Memory as NoMemory, DiskFault as NotRead, Past}
 
--- there is a moment between two from which a crash may leave this
-pub record IsLeftBetween (before now : Moment) (since : Moment → Areas → Type 0) (image : Areas) : Type 0 where
-  pub moment : Moment
-  pub from : IsBefore before moment
-  pub to : IsBefore moment now
-  pub left : since moment image
+-- why a call on a disk that judges nothing fails: want of memory, or a disk whose count of faults rose to this; else the
+-- count stays
+abbrev pub HasReadCause : {T : Type 0} → ℕ → ℕ → Result T CheckFault → Type 0
+HasReadCause before now (Ok value) = now ≡ before
+HasReadCause before now (Err Memory) = now ≡ before
+HasReadCause before now (Err (DiskFault faults)) = (faults ≡ now) × Rose before now
+HasReadCause before now (Err (NotOp1a clause at)) = ⊥
 
--- Time goes on over any number of calls: since an earlier moment a crash may have left what it might have left before, or what
--- it may have left at a moment since then, and nothing else. A ticket that was made stays so.
-pub record Elapsed (before now : Moment) (past since : Moment → Areas → Type 0) (made makes : Ticket → Type 0) : Type 0 where
-  pub later : IsBefore before now
-  pub nothing_else : (moment : Moment) (image : Areas) → IsBefore moment before → since moment image
-      → past moment image ⊎ IsLeftBetween before now since image
-  pub keeps : (moment : Moment) (image : Areas) → IsBefore moment before → past moment image → since moment image
-  pub tickets : (ticket : Ticket) → made ticket → makes ticket
+-- the same of a call that judges the file
+abbrev pub HasCheckCause : {T : Type 0} → ℕ → ℕ → Result T CheckFault → Type 0
+HasCheckCause before now (Ok value) = now ≡ before
+HasCheckCause before now (Err Memory) = now ≡ before
+HasCheckCause before now (Err (DiskFault faults)) = (faults ≡ now) × Rose before now
+HasCheckCause before now (Err (NotOp1a clause at)) = now ≡ before
 
--- why a call fails before all clauses are judged: want of memory, or a disk whose count of faults rose to this
-abbrev pub IsCause : ℕ → ℕ → CheckFault → Type 0
-IsCause before now Memory = Unit {0}
-IsCause before now (DiskFault faults) = (faults ≡ now) × Rose before now
-IsCause before now (NotOp1a clause at) = ⊥
+-- the same of a call that reads the n-th of so many units: it answers that there are no more exactly where that is so
+abbrev pub HasUnitCause : {T : Type 0} → ℕ → ℕ → ℕ → ℕ → Result T UnitFault → Type 0
+HasUnitCause count n before now (Ok unit) = (n < count) × (now ≡ before)
+HasUnitCause count n before now (Err NoMemory) = (n < count) × (now ≡ before)
+HasUnitCause count n before now (Err (NotRead faults)) = (n < count) × (faults ≡ now) × Rose before now
+HasUnitCause count n before now (Err (Past units)) = (units ≡ count) × (count ≤ n) × (now ≡ before)

@@ -1,2 +1,3 @@
+pub mod Catalogues
 pub mod Calls
 pub mod inner

@@ -1,7 +1,13 @@
 pub mod Marks
+pub mod Metadata
 pub mod Kept
 pub mod Parts
 pub mod Walks
 pub mod Seen
 pub mod Files
 pub mod Rules
+pub mod Inside
+pub mod Items
+pub mod Names
+pub mod Index
+pub mod Judged

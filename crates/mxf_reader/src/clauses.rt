@@ -1,15 +1,16 @@
 //! The clauses of OP1a that what is kept of a file tells.
 
 ghost use Rattle.std.specs.Prelude.{◌≡◌, ◌-◌, ◌≤◌, List, length, take, drop};
-ghost use Rattle.mxf_op1a.specs.Clauses.{broken_1, broken_3, broken_5, broken_10};
-ghost use Rattle.mxf_op1a.specs.Contents.{Placed};
-ghost use Rattle.mxf_op1a.specs.Partitions.{file_of, parts};
+ghost use Rattle.mxf_op1a.specs.Clauses.{broken_1, broken_3, broken_5, broken_6, broken_10};
+ghost use Rattle.mxf_op1a.specs.Contents.{Placed, is_pack};
+ghost use Rattle.mxf_op1a.specs.Partitions.{file_of, parts, up_to};
 ghost use Rattle.mxf_reader.specs.inner.Files.{AreSeen};
-ghost use Rattle.mxf_reader.specs.inner.Rules.{end_seen, first_bad, keeps, run_len, seen_1};
+ghost use Rattle.mxf_reader.specs.inner.Rules.{end_seen, first_bad, first_other, keeps, lack_seen, lacks_element};
+ghost use Rattle.mxf_reader.specs.inner.Rules.{misplaced_behind, run_len, seen_1, seen_6};
 
 use crate::file::SeenFile;
 use crate::mark::{Kind, Mark};
-use crate::part::SeenPart;
+use crate::part::{SeenPart, first_of};
 
 /// What each of some partitions is to keep.
 #[derive(Clone, Copy, Debug, PartialEq, Eq)]
@@ -106,6 +107,30 @@ fn bodies(parts: &[SeenPart]) -> &[SeenPart]
     &parts[1..parts.len() - 1]
 }
 
+/// The first element of bodies whose key isn't the picture element's.
+fn first_other(bodies: &[SeenPart]) -> Option<u64>
+    ensures { result ≡ first_other bodies.now }
+{
+    for body in bodies {
+        if body.other.is_some() {
+            return body.other;
+        }
+    }
+    None
+}
+
+/// A body has no element.
+fn lacks_element(bodies: &[SeenPart]) -> bool
+    ensures { result ≡ lacks_element bodies.now }
+{
+    for body in bodies {
+        if body.element.is_none() {
+            return true;
+        }
+    }
+    false
+}
+
 /// Where a body's offset isn't what is before it in the essence stream.
 pub(crate) fn clause_5(file: &SeenFile) -> Option<u64>
     ensures { (items : List Placed) → AreSeen items file.now → result ≡ broken_5 0 (file_of (parts file.now.len items)).bodies }
@@ -114,6 +139,52 @@ pub(crate) fn clause_5(file: &SeenFile) -> Option<u64>
         return None;
     }
     first_bad(Rule::Offset, bodies(&file.parts))
+}
+
+/// The file's length, where a body has no element.
+fn lack_seen(len: u64, bodies: &[SeenPart]) -> Option<u64>
+    ensures { result ≡ lack_seen len bodies.now }
+{
+    if lacks_element(bodies) {
+        Some(len)
+    } else {
+        None
+    }
+}
+
+/// Behind the header, the first element with another key than the picture element's or in the footer, or the file's length
+/// where a body has none.
+fn misplaced_behind(len: u64, rest: &[SeenPart]) -> Option<u64>
+    ensures { result ≡ misplaced_behind len rest.now }
+{
+    if rest.len() == 0 {
+        return None;
+    }
+    let bodies = &rest[..rest.len() - 1];
+    let footer = rest[rest.len() - 1];
+    let lacking = first_of(footer.element, lack_seen(len, bodies));
+    first_of(first_other(bodies), lacking)
+}
+
+/// The first element of partitions that stands elsewhere than in a body, or has another key than the picture element's, or
+/// the file's length where a body has none.
+fn misplaced(len: u64, parts: &[SeenPart]) -> Option<u64>
+    ensures { result ≡ seen_6 len parts.now }
+{
+    if parts.len() == 0 {
+        return None;
+    }
+    let header = parts[0];
+    first_of(header.element, misplaced_behind(len, &parts[1..]))
+}
+
+/// The first element that stands elsewhere than in a body, or has another key than the picture element's, or the file's
+/// length where a body has none.
+pub(crate) fn clause_6(file: &SeenFile) -> Option<u64>
+    ensures { (items : List Placed) → AreSeen items file.now
+        → result ≡ broken_6 file.now.len (up_to is_pack items) (file_of (parts file.now.len items)) }
+{
+    first_of(file.front, misplaced(file.len, &file.parts))
 }
 
 /// Where header bytes or index bytes aren't the lengths of what stands there.

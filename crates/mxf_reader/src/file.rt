@@ -1,18 +1,22 @@
 //! What is kept of a whole file.
 
-ghost use Rattle.std.specs.Prelude.{◌≡◌, Some, IfOk, IfErr};
+ghost use Rattle.std.specs.Prelude.{◌≡◌, Some, IfOk};
 ghost use Rattle.take_disk.specs.Calls.{Stays};
 ghost use Rattle.take_disk.specs.Held.{Disk};
-ghost use Rattle.mxf_reader.specs.Calls.{Elapsed, IsCause};
+ghost use Rattle.take_disk.specs.declared.area.Area.{Area};
+ghost use Rattle.take_disk.specs.Elapsed.{Elapsed};
+ghost use Rattle.mxf_reader.specs.Calls.{HasReadCause};
 ghost use Rattle.mxf_reader.specs.inner.Files.{IsClosed, IsSeen};
+ghost use Rattle.mxf_reader.specs.inner.Inside.{IsInside};
 
 use crate::fault::CheckFault;
 use crate::items::{Walked, walk_items};
 use crate::mark::Mark;
 use crate::part::{SeenPart, close_at};
-use crate::seen::{Seen, SeenElement};
+use crate::seen::Seen;
 use std::alloc::{AllocError, Global};
 use take_disk::{Area, TakeDisk};
+use take_layout::Place;
 
 /// What is kept of a whole file.
 #[derive(Debug, Drop)]
@@ -21,8 +25,8 @@ pub struct SeenFile {
     pub parts: Vec<SeenPart>,
     /// The first element before all packs.
     pub front: Option<u64>,
-    /// The elements.
-    pub elements: Vec<SeenElement>,
+    /// Where the elements' values lie.
+    pub elements: Vec<Place>,
     /// The index table segments.
     pub segments: Vec<Mark>,
     /// The last item that isn't fill.
@@ -63,7 +67,8 @@ fn close(walked: Walked, len: u64) -> Result<SeenFile, AllocError>
 pub fn walk<D: TakeDisk>(alloc: Global, disk: &mut D) -> Result<SeenFile, CheckFault>
     ensures seen { IfOk result (λ file. (told : Disk) → D.told disk.old ≡ Some told → IsSeen told.essence.reads file) }
 
-    ensures cause { IfErr result (IsCause (D.fault_count disk.old) (D.fault_count disk.new)) }
+    ensures inside { IfOk result (IsInside (D.length_of disk.old Area.Essence)) }
+    ensures cause { HasReadCause (D.fault_count disk.old) (D.fault_count disk.new) result }
     ensures stays { Stays (D.told disk.old) (D.told disk.new) (D.length_of disk.old) (D.length_of disk.new) }
     ensures time { Elapsed (D.moment disk.old) (D.moment disk.new) (D.images_since disk.old) (D.images_since disk.new)
         (D.made disk.old) (D.made disk.new) }

@@ -10,7 +10,9 @@ ghost use Rattle.rec_bytes.specs.Faults.{HasCause};
 ghost use Rattle.take_disk.specs.Calls.{Stays};
 ghost use Rattle.take_disk.specs.Held.{Disk};
 ghost use Rattle.take_disk.specs.declared.area.Area.{Area};
-ghost use Rattle.mxf_reader.specs.Calls.{Elapsed, IsCause};
+ghost use Rattle.take_disk.specs.Elapsed.{Elapsed};
+ghost use Rattle.mxf_reader.specs.Calls.{HasReadCause};
+ghost use Rattle.mxf_reader.specs.inner.Inside.{IsSeenInside};
 ghost use Rattle.mxf_reader.specs.inner.Marks.{kind_of};
 ghost use Rattle.mxf_reader.specs.inner.Walks.{AreWalked, IsFound, IsKindAt, IsMarkBy, IsStep};
 
@@ -172,8 +174,9 @@ fn mark_at<D: TakeDisk>(disk: &mut D, at: u64) -> Result<Option<Mark>, Failed>
 pub(crate) fn walk_items<D: TakeDisk>(alloc: Global, disk: &mut D) -> Result<Walked, CheckFault>
     ensures walked { IfOk result (λ w. (told : Disk) → D.told disk.old ≡ Some told → AreWalked told.essence.reads w) }
     ensures within { IfOk result (λ w. w.stop ≤ D.length_of disk.old Area.Essence) }
+    ensures inside { IfOk result (λ w. IsSeenInside w.stop w.seen) }
 
-    ensures cause { IfErr result (IsCause (D.fault_count disk.old) (D.fault_count disk.new)) }
+    ensures cause { HasReadCause (D.fault_count disk.old) (D.fault_count disk.new) result }
     ensures stays { Stays (D.told disk.old) (D.told disk.new) (D.length_of disk.old) (D.length_of disk.new) }
     ensures time { Elapsed (D.moment disk.old) (D.moment disk.new) (D.images_since disk.old) (D.images_since disk.new)
         (D.made disk.old) (D.made disk.new) }

@@ -1,23 +1,14 @@
 //! What is kept of the items of a file.
 
-ghost use Rattle.std.specs.Prelude.{◌≡◌, ◌≤◌, ◌++◌, [], ◌∷◌, List, Option, OnOk};
+ghost use Rattle.std.specs.Prelude.{◌≡◌, ◌≤◌, ◌+◌, ◌++◌, [], ◌∷◌, List, Option, OnOk};
+ghost use Rattle.mxf_reader.specs.inner.Inside.{IsSeenInside};
 ghost use Rattle.mxf_reader.specs.inner.Kept.{IsKept, element_of, front_place, last_next, offset_in, seen_element, segment_of};
 ghost use Rattle.mxf_reader.specs.inner.Parts.{IsWithin};
 
 use crate::mark::{Kind, Mark};
 use crate::part::{SeenPart, element_place, first_of, going_next, keep_closed, offset_at};
 use std::alloc::{AllocError, Global};
-
-/// What is kept of an element.
-#[derive(Clone, Copy, Debug, PartialEq, Eq)]
-pub struct SeenElement {
-    /// The place of its value.
-    pub value_at: u64,
-    /// Bytes of its value.
-    pub value_len: u64,
-    /// Its place in the essence stream.
-    pub offset: u64,
-}
+use take_layout::Place;
 
 /// What is kept of items.
 #[derive(Debug, Drop)]
@@ -28,8 +19,8 @@ pub struct Seen {
     pub going: Option<SeenPart>,
     /// The first element before all packs.
     pub front: Option<u64>,
-    /// The elements.
-    pub elements: Vec<SeenElement>,
+    /// Where the elements' values lie.
+    pub elements: Vec<Place>,
     /// The index table segments.
     pub segments: Vec<Mark>,
     /// The last item that isn't fill.
@@ -69,7 +60,7 @@ fn offset_in(going: &Option<SeenPart>, at: u64) -> u64
 
 /// Keeps an item that is an element.
 fn keep_element(
-    elements: &mut Vec<SeenElement>,
+    elements: &mut Vec<Place>,
     going: &Option<SeenPart>,
     m: &Mark,
 ) -> Result<(), AllocError>
@@ -78,10 +69,10 @@ fn keep_element(
 {
     match m.kind {
         Kind::EssenceElement => {
-            elements.push(SeenElement {
-                value_at: m.value_at,
-                value_len: m.value_len,
-                offset: offset_in(going, m.at),
+            elements.push(Place {
+                at: m.value_at,
+                stream: offset_in(going, m.at),
+                len: m.value_len,
             })?;
             Ok(())
         }
@@ -105,6 +96,7 @@ fn keep_segment(segments: &mut Vec<Mark>, m: &Mark) -> Result<(), AllocError>
 /// Nothing is kept yet.
 pub(crate) fn nothing(alloc: Global) -> Seen
     ensures none { IsKept result [] }
+    ensures inside { IsSeenInside 0 result }
     ensures going { result.going ≡ Option.None }
 {
     Seen {
@@ -122,6 +114,8 @@ pub(crate) fn keep(seen: &mut Seen, m: &Mark) -> Result<(), AllocError>
     requires { IsWithin m.now.at seen.old.going }
     ensures kept { OnOk result ((ms : List Mark) → IsKept seen.old ms → IsKept seen.new (ms ++ m.now ∷ [])) }
     ensures within { OnOk result (IsWithin m.now.at seen.new.going) }
+    ensures inside { OnOk result (IsSeenInside m.now.at seen.old → m.now.at ≤ m.now.value_at
+        → IsSeenInside (m.now.value_at + m.now.value_len) seen.new) }
 {
     keep_closed(&mut seen.closed, &seen.going, m)?;
     keep_element(&mut seen.elements, &seen.going, m)?;

@@ -1,5 +1,6 @@
 //! Files over a disk in memory.
 
+use crate::catalogue::Catalogue;
 use crate::fault::CheckFault;
 use crate::file::walk;
 use std::test::Fail;
@@ -39,5 +40,21 @@ fn a_read_that_fails_is_told_with_the_count(rt: HostRuntime) -> Result<(), Fail>
     let mut disk = MemoryDisk::new(rt.alloc(), &FILE, b"", 128, 64, &[1], None)?;
     let stop = walk(rt.alloc(), &mut disk).map(|file| file.stop);
     assert_eq!(rt; stop, Err(CheckFault::DiskFault { faults: 1 }));
+    Ok(())
+}
+
+#[test]
+fn an_empty_file_lacks_its_random_index_pack(rt: HostRuntime) -> Result<(), Fail> {
+    let mut disk = MemoryDisk::new(rt.alloc(), b"", b"", 128, 64, &[], None)?;
+    let frames = Catalogue::read(rt.alloc(), &mut disk).map(|kept| kept.summary().frames);
+    assert_eq!(rt; frames, Err(CheckFault::NotOp1a { clause: 1, at: 0 }));
+    Ok(())
+}
+
+#[test]
+fn a_file_that_is_not_read_is_not_judged(rt: HostRuntime) -> Result<(), Fail> {
+    let mut disk = MemoryDisk::new(rt.alloc(), &FILE, b"", 128, 64, &[1], None)?;
+    let frames = Catalogue::read(rt.alloc(), &mut disk).map(|kept| kept.summary().frames);
+    assert_eq!(rt; frames, Err(CheckFault::DiskFault { faults: 1 }));
     Ok(())
 }

@@ -6,7 +6,7 @@ use Rattle.mxf_reader.specs.declared.mark.Kind.TheVariants.{Filler, PartitionPac
 use Rattle.mxf_reader.specs.declared.mark.Mark.{Mark}
 use Rattle.mxf_reader.specs.declared.part.SeenPart.{SeenPart}
 use Rattle.mxf_reader.specs.declared.seen.Seen.{Seen}
-use Rattle.mxf_reader.specs.declared.seen.SeenElement.{SeenElement}
+use Rattle.take_layout.specs.declared.place.Place.{Place}
 use Rattle.mxf_reader.specs.inner.Parts.{closed_one, element_place, first_of, going_next, offset_at}
 
 -- the partition that goes on behind items, and those that ended
@@ -33,10 +33,10 @@ offset_in None at = 0
 offset_in (Some p) at = offset_at p at
 
 -- what is kept of an element
-abbrev pub seen_element : Option SeenPart → Mark → SeenElement
-seen_element so m = record { value_at = m.value_at; value_len = m.value_len; offset = offset_in so m.at }
+abbrev pub seen_element : Option SeenPart → Mark → Place
+seen_element so m = record { at = m.value_at; stream = offset_in so m.at; len = m.value_len }
 
-abbrev pub element_by : Kind → Option SeenPart → Mark → List SeenElement
+abbrev pub element_by : Kind → Option SeenPart → Mark → List Place
 element_by EssenceElement so m = seen_element so m ∷ []
 element_by Filler so m = []
 element_by (PartitionPack pack) so m = []
@@ -46,10 +46,10 @@ element_by IndexSegment so m = []
 element_by RandomIndexPack so m = []
 element_by Unknown so m = []
 
-abbrev pub element_of : Option SeenPart → Mark → List SeenElement
+abbrev pub element_of : Option SeenPart → Mark → List Place
 element_of so m = element_by m.kind so m
 
-unfoldable pub elements_from : Option SeenPart → List Mark → List SeenElement
+unfoldable pub elements_from : Option SeenPart → List Mark → List Place
 elements_from so [] = []
 elements_from so (m ∷ ms) = element_of so m ++ elements_from (going_next so m) ms
 

@@ -1,5 +1,5 @@
 -- The clauses of OP1a, over what is kept of a file (own). Private functions alone cite this.
-use Rattle.std.specs.Prelude.{ℕ, ◌-◌, ◌==◌, ◌&&◌, nat_lt, Bool, if◌then◌else◌, List, [], ◌∷◌, Option, Some, None}
+use Rattle.std.specs.Prelude.{ℕ, ◌-◌, ◌==◌, ◌&&◌, ◌||◌, nat_lt, Bool, false, if◌then◌else◌, List, [], ◌∷◌, length, take, Option, Some, None, is_none}
 use Rattle.mxf_op1a.specs.Clauses.{is_body, is_closed, is_footer, is_header, is_open}
 use Rattle.mxf_reader.specs.declared.clauses.Rule.{Rule}
 use Rattle.mxf_reader.specs.declared.clauses.Rule.TheVariants.{Places, Offset, Lengths}
@@ -7,7 +7,7 @@ use Rattle.mxf_reader.specs.declared.mark.Kind.{Kind}
 use Rattle.mxf_reader.specs.declared.mark.Kind.TheVariants.{Filler, PartitionPack, PrimerPack, MetadataSet, IndexSegment, RandomIndexPack, EssenceElement, Unknown}
 use Rattle.mxf_reader.specs.declared.mark.Mark.{Mark}
 use Rattle.mxf_reader.specs.declared.part.SeenPart.{SeenPart}
-use Rattle.mxf_reader.specs.inner.Parts.{place_or}
+use Rattle.mxf_reader.specs.inner.Parts.{first_of, place_or}
 
 -- the bytes of a run, by where it begins, what ends it and where the partition ends
 abbrev pub run_len : Option ℕ → Option ℕ → ℕ → ℕ
@@ -63,3 +63,34 @@ abbrev pub seen_4 : ℕ → List SeenPart → Option ℕ
 seen_4 len [] = Some len
 seen_4 len (p ∷ []) = Some p.at
 seen_4 len (p ∷ q ∷ ps) = if is_first_kept p then bad_behind (q ∷ ps) else Some p.at
+
+-- the first element of bodies whose key isn't the picture element's
+unfoldable pub first_other : List SeenPart → Option ℕ
+first_other [] = None
+first_other (p ∷ ps) = first_of p.other (first_other ps)
+
+-- a body has no element
+unfoldable pub lacks_element : List SeenPart → Bool
+lacks_element [] = false
+lacks_element (p ∷ ps) = is_none p.element || lacks_element ps
+
+-- the file's length, where a body has none
+abbrev pub lack_seen : ℕ → List SeenPart → Option ℕ
+lack_seen len bodies = if lacks_element bodies then Some len else None
+
+-- the first element of the last partition
+unfoldable pub last_element : List SeenPart → Option ℕ
+last_element [] = None
+last_element (p ∷ []) = p.element
+last_element (p ∷ q ∷ ps) = last_element (q ∷ ps)
+
+-- behind the header: the first element of bodies with another key than the picture element's, or of the footer, or the
+-- file's length where a body has none
+abbrev pub misplaced_behind : ℕ → List SeenPart → Option ℕ
+misplaced_behind len ps =
+    first_of (first_other (take (length ps - 1) ps)) (first_of (last_element ps) (lack_seen len (take (length ps - 1) ps)))
+
+-- the first element that stands elsewhere than it should, in any partition
+abbrev pub seen_6 : ℕ → List SeenPart → Option ℕ
+seen_6 len [] = None
+seen_6 len (p ∷ ps) = first_of p.element (misplaced_behind len ps)

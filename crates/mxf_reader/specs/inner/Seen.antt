@@ -1,8 +1,8 @@
 -- What is kept of a file, by the definitions of OP1a (own). Private functions alone cite this.
-use Rattle.std.specs.Prelude.{ℕ, ◌+◌, ◌||◌, not, Bool, true, false, List, [], ◌∷◌, Option, None}
-use Rattle.mxf_op1a.specs.Clauses.{first_place, other_elements, places}
-use Rattle.mxf_op1a.specs.Contents.{Content, Placed, is_fill, is_primer, is_segment, is_set}
-use Rattle.mxf_op1a.specs.Partitions.{Part, elements, from_first, parts, stream_len}
+use Rattle.std.specs.Prelude.{ℕ, ◌+◌, ◌||◌, not, Bool, true, false, List, [], ◌∷◌, ◌++◌, map, Option, None}
+use Rattle.mxf_op1a.specs.Clauses.{first_place, offset_in, other_elements, places}
+use Rattle.mxf_op1a.specs.Contents.{Content, Placed, is_fill, is_pack, is_primer, is_segment, is_set}
+use Rattle.mxf_op1a.specs.Partitions.{Part, elements, from_first, parts, stream_len, up_to}
 use Rattle.mxf_reader.specs.declared.part.SeenPart.{SeenPart}
 
 -- where a run ends that begins with the first of these items, none where they end first
@@ -35,3 +35,17 @@ due_with false due part = due + stream_len part
 unfoldable pub seen_parts : Bool → ℕ → List Part → List SeenPart
 seen_parts is_first due [] = []
 seen_parts is_first due (part ∷ parts) = seen_part is_first due part ∷ seen_parts false (due_with is_first due part) parts
+
+-- elements before all packs have no place in the essence stream
+abbrev pub front_streams : List Placed → List ℕ
+front_streams items = map (λ p. 0) (elements items)
+
+-- the places of elements in the essence stream, by their partitions
+unfoldable pub part_streams : Bool → ℕ → List Part → List ℕ
+part_streams is_first due [] = []
+part_streams is_first due (part ∷ parts) =
+    map (offset_in part due) (elements part.items) ++ part_streams false (due_with is_first due part) parts
+
+-- those of all elements of a file of this length
+abbrev pub streams_of : ℕ → List Placed → List ℕ
+streams_of len items = front_streams (up_to is_pack items) ++ part_streams true 0 (parts len items)

@@ -30,7 +30,7 @@ IsFound bytes at (Some m) = IsMarked bytes at m
 -- an item goes on from its place, and stays within the file
 abbrev pub IsStep : ℕ → ℕ → Option Mark → Type 0
 IsStep at len None = Unit {0}
-IsStep at len (Some m) = (m.at ≡ at) × (at < m.value_at + m.value_len) × (m.value_at + m.value_len ≤ len)
+IsStep at len (Some m) = (m.at ≡ at) × (at ≤ m.value_at) × (at < m.value_at + m.value_len) × (m.value_at + m.value_len ≤ len)
 
 -- what an item at a place is, where its key and its value are these
 abbrev pub IsKindAt : List ℕ → ℕ → List ℕ → ℕ → ℕ → Kind → Type 0

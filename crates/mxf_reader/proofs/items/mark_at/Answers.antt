@@ -1,6 +1,6 @@
 use Rattle.std.proofs.Common.{◌≡◌, ◌+◌, ◌-◌, ℕ, List, length, take, drop, sym, ◌∙◌, arith}
 use Rattle.std.proofs.lemmas.List.{length-drop}
-use Rattle.mxf_reader.proofs.DiskLemmas.{elapsed_more}
+use Rattle.take_disk.specs.laws.TimeLaws.{elapsed_more}
 use Rattle.mxf_reader.proofs.StandLemmas.{front_key, front_whole}
 use Rattle.take_disk.specs.declared.area.Area.TheVariants.{Essence}
 use Rattle.mxf_reader.proofs.items.mark_at.Goals as goal

@@ -1,8 +1,9 @@
 use Rattle.std.proofs.Common.{◌+◌, ℕ, List, Some, refl, sym, subst, ◌∙◌, arith}
 use Rattle.take_disk.specs.declared.area.Area.TheVariants.{Essence}
+use Rattle.mxf_reader.specs.inner.Inside.{IsSeenInside}
 use Rattle.mxf_reader.specs.inner.Parts.{IsWithin}
 use Rattle.mxf_reader.specs.inner.Walks.{IsFound}
-use Rattle.mxf_reader.proofs.DiskLemmas.{elapsed_more, elapsed_none}
+use Rattle.take_disk.specs.laws.TimeLaws.{elapsed_more, elapsed_none}
 use Rattle.mxf_reader.proofs.WalkLemmas.{passed_more, passed_none, walked_all, walked_part, within_later}
 use Rattle.mxf_reader.proofs.items.walk_items.Goals as goal
 
@@ -10,6 +11,7 @@ pub loop-at-init : goal.loop-at-init
 loop-at-init g c = record {
   place = omega arith;
   within = subst (IsWithin 0) (sym c.nothing-seen.ensures.going) tt;
+  inside = c.nothing-seen.ensures.inside;
   passed = λ told is. passed_none told.essence.reads c.nothing-seen.result c.nothing-seen.ensures.none;
   count = refl;
   stays = record { same = refl; lengths = λ area. refl };
@@ -24,8 +26,10 @@ loop-at-preserved g c =
     let end : ℕ = c.in-Some.m.value_at + c.in-Some.m.value_len in
     let mark = c.mark_at.ensures in
     record {
-      place = omega (arith, step.2, same);
-      within = within_later c.in-Some.m.at end c.keep.new.seen.going c.in-Ok-keep.ensures.within (omega (arith, step.0, step.1));
+      place = omega (arith, step.3, same);
+      within = within_later c.in-Some.m.at end c.keep.new.seen.going c.in-Ok-keep.ensures.within (omega (arith, step.0, step.2));
+      inside =
+          c.in-Ok-keep.ensures.inside (subst (λ (n : ℕ). IsSeenInside n c.loop-at.seen) (sym step.0) before.inside) (omega (arith, step.0, step.1));
       passed = λ told is.
           let bytes : List ℕ = told.essence.reads in
           let found : IsFound bytes c.loop-at.at (Some c.in-Some.m) =
