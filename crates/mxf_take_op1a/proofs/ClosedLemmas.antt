@@ -54,7 +54,7 @@ unfolding primer_value entry_tags
 primer_tags = refl
 
 -- the sets as they are read
-sets_read : (cfg : Fields) (frames : Option ℕ) (at : ℕ) → IsInRange cfg
+pub sets_read : (cfg : Fields) (frames : Option ℕ) (at : ℕ) → IsInRange cfg
     → map set_at (placed_from at (set_items cfg frames)) ≡ own_sets at (sets cfg (ids_of cfg) frames)
 sets_read cfg frames at h =
     let ids : Ids = ids_of cfg in
@@ -128,7 +128,7 @@ kept_8 r cfg units len count h small last e =
     footer_sets s units len is ∙ sets_read cfg (Some (length units)) (foot_at s units) h
     )
     ∙ ap (λ (ss : List SetAt). first_place (places_but (lasts (big_bytes 8 (length units))) ss)) (append-nil (own_sets (foot_at s units) list))
-    ∙ ap first_place (none_short (length units) (foot_at s units) list last)
+    ∙ ap first_place (none_short (Some (length units)) (foot_at s units) list last)
 
 -- all clauses are kept
 ten : (a b c d e f g h i j : Option ℕ) → a ≡ None → b ≡ None → c ≡ None → d ≡ None → e ≡ None → f ≡ None → g ≡ None → h ≡ None → i ≡ None → j ≡ None
@@ -168,7 +168,7 @@ none_broken r cfg units len h small last e =
     (kept_10 s units len is (count_bytes cfg units h) due)
 
 -- units of a take are small
-are_small : (cfg : Fields) (units : Units) → IsInRange cfg → AreUnits (is_unit cfg) cfg.max_frames units → AreSmall units
+pub are_small : (cfg : Fields) (units : Units) → IsInRange cfg → AreUnits (is_unit cfg) cfg.max_frames units → AreSmall units
 are_small cfg units h are = record {
   each = recursion_from_All (λ (unit : List ℕ). length unit ≤ 2 ^ 28) units are.each;
   few = omega (arith, are.few, h.max_frames.most);

@@ -116,22 +116,22 @@ covered len at first items streams rest ps c = elim c.cases [
 ]
 
 -- segments at their places among all items
-segments_past : (at : ℕ) (items : List Item) (ps : List Placed) → AreNone is_segment items
+pub segments_past : (at : ℕ) (items : List Item) (ps : List Placed) → AreNone is_segment items
     → filter (being is_segment) (placed_from at items ++ ps) ≡ filter (being is_segment) ps
 segments_past at items ps h =
     filter_append (being is_segment) (placed_from at items) ps
     ∙ ap (λ (qs : List Placed). qs ++ filter (being is_segment) ps) (filter_none is_segment at items h)
 
-segments_here : (at : ℕ) (items : List Item) (ps : List Placed) → AreAll Segment items
+pub segments_here : (at : ℕ) (items : List Item) (ps : List Placed) → AreAll Segment items
     → filter (being is_segment) (placed_from at items ++ ps) ≡ placed_from at items ++ filter (being is_segment) ps
 segments_here at items ps h =
     filter_append (being is_segment) (placed_from at items) ps
     ∙ ap (λ (qs : List Placed). qs ++ filter (being is_segment) ps) (filter_each is_segment at items (all_each is_segment Segment items refl h))
 
-segments_next : (p : Placed) (ps : List Placed) → is_segment (content_of p.item) ≡ false → filter (being is_segment) (p ∷ ps) ≡ filter (being is_segment) ps
+pub segments_next : (p : Placed) (ps : List Placed) → is_segment (content_of p.item) ≡ false → filter (being is_segment) (p ∷ ps) ≡ filter (being is_segment) ps
 segments_next p ps h = rw h refl
 
-segments_closing : (s : Shape) (all : Units) (at : ℕ) → IsShape s all
+pub segments_closing : (s : Shape) (all : Units) (at : ℕ) → IsShape s all
     → filter (being is_segment) (placed_from at (closing s)) ≡ placed_from ((at + length (spelled s.primer)) + bytes_of s.foot_sets) s.last
 segments_closing s all at h =
     let next : ℕ = at + length (spelled s.primer) in

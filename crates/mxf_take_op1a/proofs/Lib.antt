@@ -13,7 +13,9 @@ pub mod Says
 pub mod SetLemmas
 pub mod Shapes
 pub mod SmallLemmas
+pub mod StreamNames
 pub mod TakeIndex
 pub mod TakeItems
+pub mod TakeNames
 pub mod TakeSays
 pub mod TakeShape

@@ -1,10 +1,11 @@
 -- What the packs of such a file say, and what its index tables name.
-use Rattle.std.proofs.Common.{◌≡◌, ℕ, ◌+◌, ◌⊎◌, true, false, List, [], ◌∷◌, ◌++◌, length, map, Some}
+use Rattle.std.proofs.Common.{◌≡◌, ℕ, ◌+◌, ◌==◌, ◌⊎◌, cond, true, false, List, [], ◌∷◌, ◌++◌, length, map, Some}
 use Rattle.klv.specs.Items.{Item, spelled}
 use Rattle.mxf_partitions.specs.Reads.{entries_of}
 use Rattle.mxf_partitions.specs.declared.random_index.PackEntry.{PackEntry}
 use Rattle.mxf_index.specs.Reads.{Frames, frames_of}
 use Rattle.mxf_names.specs.declared.keys.TheConstants.{PICTURE_ELEMENT_KEY}
+use Rattle.mxf_names.specs.declared.streams.TheConstants.{ESSENCE_STREAM, INDEX_STREAM}
 use Rattle.mxf_op1a.specs.Partitions.{Part}
 use Rattle.mxf_op1a.specs.Clauses.{is_header, is_body, is_footer, is_open, is_closed}
 use Rattle.mxf_take_op1a.proofs.PlacedLemmas.{bytes_of}
@@ -84,3 +85,16 @@ pub record CoverOffsets (s : Shape) (all : Units) (offsets : List ℕ) : Type 0 
   pub stays : (units : Units) (unit : List ℕ) → s.due units ≡ false
       → (first (units ++ unit ∷ []) ≡ first units) × (left (units ++ unit ∷ []) ≡ left units)
   pub last : Covers s.last (first all) (left all)
+
+-- the stream of index tables of these segments
+abbrev pub stream_of : List Item → ℕ
+stream_of items = cond (length items == 0) 0 INDEX_STREAM
+
+-- packs name the streams of essence and of index tables
+pub record NameStreams (s : Shape) : Type 0 where
+  pub header_body : s.opens.body_sid ≡ 0
+  pub header_index : s.opens.index_sid ≡ 0
+  pub body_body : (units : Units) → (s.says units).body_sid ≡ ESSENCE_STREAM
+  pub body_index : (units : Units) → (s.says units).index_sid ≡ stream_of (s.segments units)
+  pub footer_body : s.closes.body_sid ≡ 0
+  pub footer_index : s.closes.index_sid ≡ stream_of s.last

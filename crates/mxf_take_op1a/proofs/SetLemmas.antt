@@ -1,11 +1,10 @@
 -- The metadata sets of such a file, as they are read.
 use Rattle.std.proofs.Common.{◌≡◌, ℕ, ◌+◌, ◌&&◌, ◌||◌, not, Bool, true, false, cond, List, [], ◌∷◌, ◌++◌, length}
-use Rattle.std.proofs.Common.{map, Some, refl, sym, ap, ap₂, ◌∙◌, inl, inr, append-nil}
+use Rattle.std.proofs.Common.{map, Option, refl, sym, ap, ap₂, ◌∙◌, inl, inr, append-nil}
 use Rattle.std.specs.Prelude.{filter}
 use Rattle.std.proofs.lemmas.List.Folds.{flat_map-map}
 use Rattle.std.specs.List.{flat_map, list_all, AllByRecursion}
 use Rattle.std.specs.Str.{bytes_eq}
-use Rattle.byteorder.specs.Endian.{big_bytes}
 use Rattle.klv.specs.Items.{Item, spelled}
 use Rattle.local_sets.specs.Sets.{RawItem, IsRawItem, raw, raw_bytes, set_value, items_bytes}
 use Rattle.local_sets.specs.Reads.{items_in, rest_in}
@@ -14,12 +13,14 @@ use Rattle.local_sets.specs.Values.{duration_bytes}
 use Rattle.local_sets.specs.declared.set.Item as typed
 use Rattle.mxf_metadata.specs.Durations.{HaveDuration, durations, has_duration, is_duration}
 use Rattle.mxf_metadata.specs.Metadata.{Set, raw_set}
+use Rattle.mxf_metadata.specs.RawSets.{RawSet}
 use Rattle.mxf_metadata_reader.specs.PlacedSets.{ReadSet, read_set}
 use Rattle.mxf_op1a.specs.Contents.{Content, Placed, content_of, placed_from, is_fill, is_primer, is_set}
 use Rattle.mxf_op1a.specs.Contents.Content.{Set as SetContent, Segment, RandomIndex}
 use Rattle.mxf_op1a.specs.Partitions.{being, from_first, up_to}
 use Rattle.mxf_op1a.specs.Metadata.{SetAt, set_at, sets_behind, sets_of, sets_from, lasts, places_but}
 use Rattle.mxf_take_file.specs.Items.{item_of_set}
+use Rattle.mxf_take_op1a.specs.Take.{raw_of}
 use Rattle.mxf_take_op1a.proofs.ItemClauses.{bytes_self, closing_placed, none_going}
 use Rattle.mxf_take_op1a.proofs.PlacedLemmas.{placed, bytes_of, AreAll, all_none, all_each, filter_each, from_here, up_past, up_here, up_none}
 use Rattle.mxf_take_op1a.proofs.Shapes.{Units, Shape, IsShape, header_part, footer_part, tested}
@@ -146,14 +147,13 @@ lasts_by bytes (item ∷ items) h =
           rw not_is (lasts_by bytes items k)
     ]
 
-set_lasts : (frames : ℕ) (at : ℕ) (set : Set)
-    → durations (raw_set set) ≡ cond (has_duration set.kind) (duration_bytes (Some frames) ∷ []) []
-    → lasts (big_bytes 8 frames) (placed_set at set) ≡ true
-set_lasts frames at set h = lasts_by (big_bytes 8 frames) (map raw set.items)
-    (ap (list_all (λ value. bytes_eq value (big_bytes 8 frames))) h ∙ by (has_duration set.kind))
+set_lasts : (bytes : List ℕ) (at : ℕ) (set : Set) → durations (raw_set set) ≡ cond (has_duration set.kind) (bytes ∷ []) []
+    → lasts bytes (placed_set at set) ≡ true
+set_lasts bytes at set h = lasts_by bytes (map raw set.items)
+    (ap (list_all (λ value. bytes_eq value bytes)) h ∙ by (has_duration set.kind))
   where
-    by : (b : Bool) → list_all (λ value. bytes_eq value (big_bytes 8 frames)) (cond b (big_bytes 8 frames ∷ []) []) ≡ true
-    by true = rw (bytes_self (big_bytes 8 frames)) refl
+    by : (b : Bool) → list_all (λ value. bytes_eq value bytes) (cond b (bytes ∷ []) []) ≡ true
+    by true = rw (bytes_self bytes) refl
     by false = refl
 
 -- of sets that all keep a test, none is wrong
@@ -163,11 +163,17 @@ unfolding own_sets
 none_but test at [] h = refl
 none_but test at (set ∷ sets) h = rw (h.0 at) (none_but test (at + length (spelled (item_of_set set))) sets h.1)
 
-all_last : (frames : ℕ) (sets : List Set) → HaveDuration (Some frames) (map raw_set sets)
-    → AllByRecursion (λ set. (at : ℕ) → lasts (big_bytes 8 frames) (placed_set at set) ≡ true) sets
+all_last : (frames : Option ℕ) (sets : List Set) → HaveDuration frames (map raw_set sets)
+    → AllByRecursion (λ set. (at : ℕ) → lasts (duration_bytes frames) (placed_set at set) ≡ true) sets
 all_last frames [] h = tt
-all_last frames (set ∷ sets) h = (λ at. set_lasts frames at set h.0, all_last frames sets h.1)
+all_last frames (set ∷ sets) h = (λ at. set_lasts (duration_bytes frames) at set h.0, all_last frames sets h.1)
 
-pub none_short : (frames at : ℕ) (sets : List Set) → HaveDuration (Some frames) (map raw_set sets)
-    → places_but (lasts (big_bytes 8 frames)) (own_sets at sets) ≡ []
-none_short frames at sets h = none_but (lasts (big_bytes 8 frames)) at sets (all_last frames sets h)
+pub none_short : (frames : Option ℕ) (at : ℕ) (sets : List Set) → HaveDuration frames (map raw_set sets)
+    → places_but (lasts (duration_bytes frames)) (own_sets at sets) ≡ []
+none_short frames at sets h = none_but (lasts (duration_bytes frames)) at sets (all_last frames sets h)
+
+-- such sets without their places
+pub raw_own : (at : ℕ) (sets : List Set) → map raw_of (own_sets at sets) ≡ map raw_set sets
+unfolding own_sets
+raw_own at [] = refl
+raw_own at (set ∷ sets) = ap (λ (rest : List RawSet). raw_set set ∷ rest) (raw_own (at + length (spelled (item_of_set set))) sets)

@@ -1,7 +1,8 @@
 //! The closed file of a take is an MXF file of operational pattern OP1a (SMPTE ST 377-1, ST 378) of the take's units.
 //!
 //! The crates above rest on `closed_files_are_op1a`: `IsOp1a` of mxf_op1a, which names no layout, holds of `closed` of
-//! mxf_take_file, the layout that is written.
+//! mxf_take_file, the layout that is written. What the ten clauses leave free, and such a file says, is the law
+//! `closed_files_name_their_take`: the take, durations that the header doesn't know, and the numbers of streams.
 //!
 //! The proofs come in two parts. In `proofs/Shapes.antt` a *shape* is any file of a header, bodies that begin before some
 //! of the units, and a footer; the ten clauses hold of each shape whose packs and index tables say what stands there. The
@@ -12,4 +13,4 @@
 
 mod laws;
 
-pub use laws::closed_files_are_op1a;
+pub use laws::{closed_files_are_op1a, closed_files_name_their_take};
