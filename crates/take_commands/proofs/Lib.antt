@@ -1,0 +1,6 @@
+pub mod CauseLemmas
+pub mod GainLemmas
+pub mod LineLemmas
+pub mod SampleLemmas
+pub mod ShowLemmas
+pub mod ViewLemmas

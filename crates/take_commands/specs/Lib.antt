@@ -1,0 +1,6 @@
+pub mod Answers
+pub mod Causes
+pub mod Checks
+pub mod Shows
+pub mod Views
+pub mod inner
