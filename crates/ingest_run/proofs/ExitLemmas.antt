@@ -22,7 +22,8 @@ use Rattle.run_parts.specs.declared.end.PutFault.TheVariants.{Memory as NoMemory
 use Rattle.run_parts.specs.Causes.{Puts}
 use Rattle.run_parts.specs.Statuses.{feed_answer, ending_answer, end_answer}
 use Rattle.ingest_run.specs.Paces.{KeepsPace}
-use Rattle.ingest_run.specs.Runs.{Gains, Outside, RunsOver, Runs}
+use Rattle.run_parts.specs.Gains.{Gains}
+use Rattle.ingest_run.specs.Runs.{Outside, RunsOver, Runs}
 use Rattle.ingest_run.specs.inner.Steps.{StaysSilent, ReadsUnit, EndsReading}
 use Rattle.ingest_run.proofs.GainLemmas.{Gains-nil, Gains-first, Gains-first_front, Gains-more, Gains-front, Gains-put, Lacks-more}
 use Rattle.ingest_run.proofs.RunLemmas.{FeedsAreOne, IsStop, AllButLast, SaysSo, over-told, but_none, but_whole, but_last, runs_head, runs_stopped, runs_closed, stopped-clean}

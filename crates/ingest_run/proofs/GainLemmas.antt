@@ -6,7 +6,7 @@ use Rattle.raw_feed.specs.Written.{Writes}
 use Rattle.run_parts.specs.declared.end.PutFault.{PutFault}
 use Rattle.run_parts.specs.declared.end.PutFault.TheVariants.{Memory as NoMemory, Sink}
 use Rattle.run_parts.specs.Causes.{Puts}
-use Rattle.ingest_run.specs.Runs.{Gains, Lacks}
+use Rattle.run_parts.specs.Gains.{Gains, Lacks}
 use Rattle.ingest_run.specs.Messages.{Taken, Reports}
 
 -- nothing was written

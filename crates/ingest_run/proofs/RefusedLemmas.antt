@@ -13,7 +13,8 @@ use Rattle.run_parts.specs.Statuses.{unit_answer}
 use Rattle.run_parts.specs.Units.{IsRead, RefusesUnit}
 use Rattle.run_parts.specs.declared.unit.UnitFault.{UnitFault}
 use Rattle.ingest_run.specs.Paces.{IsPassedOn, KeepsPace}
-use Rattle.ingest_run.specs.Runs.{BeginsWith, Wraps, Gains, Lacks, Outside, RunsOver}
+use Rattle.run_parts.specs.Gains.{Gains, Lacks}
+use Rattle.ingest_run.specs.Runs.{BeginsWith, Wraps, Outside, RunsOver}
 use Rattle.ingest_run.proofs.UnitLemmas.{unit_code}
 use Rattle.ingest_run.proofs.RunLemmas.{FeedsAreOne, IsStop, AllButLast, short, neither, other, reached, paced}
 

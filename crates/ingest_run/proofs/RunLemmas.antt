@@ -21,7 +21,8 @@ use Rattle.raw_feed.specs.HasRead.{HasRead, EndsFeed, behind_units}
 use Rattle.raw_feed.specs.Reading.{Reading, IfTold, begun}
 use Rattle.run_parts.specs.Statuses.{feed_answer, ending_answer}
 use Rattle.ingest_run.specs.Paces.{BeginsFile, KeepsPace}
-use Rattle.ingest_run.specs.Runs.{Gains, Lacks, IsCutShort, IsOpenEnd, Outside, RunsOver}
+use Rattle.run_parts.specs.Gains.{Gains, Lacks}
+use Rattle.ingest_run.specs.Runs.{IsCutShort, IsOpenEnd, Outside, RunsOver}
 use Rattle.ingest_run.specs.inner.Steps.{StaysSilent}
 use Rattle.ingest_run.proofs.GainLemmas.{Gains-nil}
 use Rattle.ingest_run.proofs.ZipLemmas.{zip_pop}

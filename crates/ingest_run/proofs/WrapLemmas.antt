@@ -16,7 +16,8 @@ use Rattle.run_parts.specs.Statuses.{unit_answer}
 use Rattle.run_parts.specs.Units.{IsRead, RefusesUnit}
 use Rattle.run_parts.specs.declared.unit.UnitFault.{UnitFault}
 use Rattle.ingest_run.specs.Paces.{IsPassedOn, KeepsPace}
-use Rattle.ingest_run.specs.Runs.{Wraps, Gains, Outside, RunsOver, Runs}
+use Rattle.run_parts.specs.Gains.{Gains}
+use Rattle.ingest_run.specs.Runs.{Wraps, Outside, RunsOver, Runs}
 use Rattle.ingest_run.specs.inner.Steps.{StaysSilent, ReadsUnit}
 use Rattle.ingest_run.proofs.GainLemmas.{Gains-more, Gains-front}
 use Rattle.ingest_run.proofs.RunLemmas.{FeedsAreOne, IsStop, AllButLast, SaysSo, over-told, but_last}

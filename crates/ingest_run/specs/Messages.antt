@@ -3,7 +3,7 @@ use Rattle.std.specs.Prelude.{◌≡◌, ◌≢◌, ◌==◌, ◌⊎◌, ℕ, Li
 use Rattle.rec_bytes.specs.Faults.{Rose}
 use Rattle.rec_bytes.specs.declared.status.Status.{Status}
 use Rattle.ingest_run.specs.declared.help.TheConstants.{USAGE}
-use Rattle.ingest_run.specs.Runs.{Gains, Lacks}
+use Rattle.run_parts.specs.Gains.{Gains, Lacks}
 
 -- the line that says an answer
 abbrev pub fault_line : Status → List ℕ

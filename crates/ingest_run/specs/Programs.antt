@@ -11,7 +11,8 @@ use Rattle.ingest_run.specs.Causes.{HasCauses}
 use Rattle.ingest_run.specs.Helps.{help_of}
 use Rattle.ingest_run.specs.Messages.{Taken, SaysAnswer}
 use Rattle.ingest_run.specs.Paces.{Paces}
-use Rattle.ingest_run.specs.Runs.{Outside, Gains, Lacks, Runs, Says}
+use Rattle.run_parts.specs.Gains.{Gains, Lacks}
+use Rattle.ingest_run.specs.Runs.{Outside, Runs, Says}
 use Rattle.ingest_run.specs.Words.{command_of}
 
 -- nothing was read and nothing was written

@@ -14,6 +14,7 @@ use Rattle.raw_feed.specs.Pictures.{IsPictureFeed}
 use Rattle.raw_feed.specs.Reading.{IfTold}
 use Rattle.frame_codec.specs.Coded.{IsCodedFrame}
 use Rattle.run_parts.specs.Causes.{Counts}
+use Rattle.run_parts.specs.Gains.{Gains, Lacks}
 use Rattle.run_parts.specs.Statuses.{ending_answer, unit_answer, words_answer}
 use Rattle.run_parts.specs.Units.{IsRead, RefusesUnit}
 use Rattle.run_parts.specs.declared.unit.UnitFault.{UnitFault}
@@ -86,16 +87,6 @@ SaysFor closed (Some Encode) bytes written status = Encodes closed bytes written
 -- what a run writes and answers where no memory is wanted and nothing fails
 abbrev pub Says : (Fields → List (List ℕ) → List ℕ) → List Text → List ℕ → List ℕ → Status → Type 0
 Says closed words = SaysFor closed (command_of words)
-
--- a sink that tells has these bytes more
-abbrev pub Gains : Option (List ℕ) → Option (List ℕ) → List ℕ → Type 0
-Gains None now written = now ≡ None
-Gains (Some old) now written = now ≡ Some (old ++ written)
-
--- a sink that tells lacks some of the bytes that were for it: these
-abbrev pub Lacks : Option (List ℕ) → List ℕ → Type 0
-Lacks None missing = Unit {0}
-Lacks (Some old) missing = missing ≢ []
 
 -- the answer says that memory was wanted, the source failed or the sink failed
 abbrev pub IsCutShort : Status → Type 0
