@@ -2,3 +2,11 @@ pub use Rattle.take_layout.specs.Grown
 pub use Rattle.take_layout.specs.Growing
 pub use Rattle.take_layout.specs.Takes
 pub use Rattle.take_layout.specs.Walks
+pub mod History
+pub mod Kept
+pub mod Marks
+pub mod Phases
+pub mod Runs
+pub mod States
+pub mod Steps
+pub mod inner

@@ -1,0 +1,4 @@
+pub mod Flags
+pub mod Keeping
+pub mod Recorded
+pub mod Sound
