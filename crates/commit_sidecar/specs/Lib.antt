@@ -1,0 +1,5 @@
+pub mod Notes
+pub mod Recovers
+pub mod Refusals
+pub mod Says
+pub mod inner

@@ -1,0 +1,38 @@
+-- What the steps of reading a commit file see.
+use Rattle.std.specs.Prelude.{◌≡◌, ◌≢◌, ℕ, List, ◌∷◌, ◌++◌, length, Option, None}
+use Rattle.rec_bytes.specs.Configuration.{Fields, Spells, spelling}
+use Rattle.take_core.specs.declared.mark.Mark.{Mark}
+use Rattle.commit_sidecar.specs.declared.file.Look.{Look}
+use Rattle.commit_sidecar.specs.declared.file.Look.TheVariants.{Shut, Open, Broken}
+use Rattle.commit_sidecar.specs.Notes.{note_of, Fits, Follows, Follow, last_of}
+use Rattle.commit_sidecar.specs.Refusals.{Breaks}
+use Rattle.commit_sidecar.specs.Says.{head_of, opened, gate_place}
+
+-- the bytes begin with the head of a configuration
+pub record BeginsHead (bytes : List ℕ) (cfg : Fields) : Type 0 where
+  pub is_config : Spells (spelling cfg) cfg
+  pub rest : List ℕ
+  pub is : bytes ≡ head_of cfg ++ rest
+
+-- the bytes begin with the note of a mark
+pub record BeginsNote (bytes : List ℕ) (mark : Mark) : Type 0 where
+  pub fits : Fits mark
+  pub rest : List ℕ
+  pub is : bytes ≡ note_of mark ++ rest
+
+-- behind open records of which the last has a mark, the bytes begin so
+abbrev pub Sees : Option Mark → List ℕ → Look → Type 0
+Sees last bytes Shut = (gate : ℕ) × (rest : List ℕ) × (gate ≢ 1) × (bytes ≡ gate ∷ rest)
+Sees last bytes (Open mark) = (rest : List ℕ) × (bytes ≡ 1 ∷ (note_of mark ++ rest)) × Follows last mark
+Sees last bytes Broken = Breaks last bytes
+
+-- so many open records stand before a place, of which the last has a mark
+pub record HasRead (bytes : List ℕ) (cfg : Fields) (at number : ℕ) (last : Option Mark) : Type 0 where
+  pub marks : List Mark
+  pub is_config : Spells (spelling cfg) cfg
+  pub follow : Follow None marks
+  pub rest : List ℕ
+  pub is : bytes ≡ head_of cfg ++ (opened marks ++ rest)
+  pub counted : number ≡ length marks
+  pub placed : at ≡ gate_place number
+  pub ends : last ≡ last_of marks
