@@ -1,4 +1,4 @@
--- What a run says by its words.
+-- What a call does by its words.
 use Rattle.std.proofs.Common.{◌≡◌, ◌≢◌, ℕ, List, [], Option, Some, None, refl, sym, ap, ◌∙◌, subst, arith, ◌⊎◌, inl, inr, ⊎_elim}
 use Rattle.std.proofs.lemmas.List.{append-nil}
 use Rattle.clap.specs.Walk.{Text}
@@ -10,120 +10,114 @@ use Rattle.raw_feed.specs.declared.kind.Kind.{Kind}
 use Rattle.raw_feed.specs.declared.kind.Kind.TheVariants.{Units, Pictures}
 use Rattle.raw_feed.specs.Told.{Told, after}
 use Rattle.raw_feed.specs.Items.{Ending, Clean, Full, Broken}
+use Rattle.raw_feed.specs.declared.head.TheConstants.{FEED_HEAD_LEN}
+use Rattle.raw_feed.specs.Breaks.{Reaches}
 use Rattle.raw_feed.specs.Feeds.{EndsInHead}
 use Rattle.raw_feed.specs.Reading.{IfTold}
-use Rattle.run_parts.specs.Causes.{Counts, IsReadAnswer, HasFeedCauses}
-use Rattle.run_parts.specs.Statuses.{feed_answer, ending_answer, words_answer, memory_answer, sink_answer}
+use Rattle.run_parts.specs.Causes.{Counts, IsReadAnswer, HasDeviceCauses, HasFeedCauses}
+use Rattle.run_parts.specs.Statuses.{answer, feed_answer, ending_answer, memory_answer, sink_answer}
+use Rattle.take_disk.specs.Calls.{IfTold as IfDiskTold}
+use Rattle.take_disk.specs.Held.{Disk}
+use Rattle.take_commands.specs.Causes.{HasTakeCauses}
+use Rattle.take_commands.specs.Checks.{Checks}
+use Rattle.take_commands.specs.Shows.{Shows}
+use Rattle.take_commands.specs.Views.{Devices, Views, ViewsBytes}
 use Rattle.ingest_run.specs.declared.words.Command.{Command}
-use Rattle.ingest_run.specs.declared.words.Command.TheVariants.{Wrap, Encode}
+use Rattle.ingest_run.specs.declared.words.Command.TheVariants.{Wrap, Encode, Check, Frame}
 use Rattle.ingest_run.specs.declared.words.WordsFault.{WordsFault}
 use Rattle.ingest_run.specs.declared.words.WordsFault.TheVariants.{Memory as NoMemory, Faulty}
-use Rattle.ingest_run.specs.Causes.{HasCauses}
+use Rattle.ingest_run.specs.Causes.{CausesFor, HasCauses, HasPictureCauses}
+use Rattle.ingest_run.specs.Commands.{Around, RunsFor, RunsCommand}
 use Rattle.ingest_run.specs.Programs.{fault_answer}
-use Rattle.ingest_run.specs.Paces.{IsPassedOn, IsEncoded, PacesFor, Paces}
-use Rattle.ingest_run.specs.Runs.{SaysFor, Says, Outside, RunsOver, Runs}
+use Rattle.ingest_run.specs.Paces.{IsPassedOn, IsEncoded, KeepsPace}
+use Rattle.ingest_run.specs.Runs.{Wraps, Encodes, Outside, RunsOver, Runs}
 use Rattle.ingest_run.specs.Words.{command_of}
-use Rattle.ingest_run.specs.inner.Steps.{HasPictureCauses}
 use Rattle.ingest_run.proofs.GainLemmas.{Gains-nil}
 use Rattle.ingest_run.proofs.UnitLemmas.{unit_code}
 use Rattle.ingest_run.proofs.RunLemmas.{FeedsAreOne, paced-head}
+
+-- the command that the words name did what it does
+pub runs_as : {S D W : Type 0} (closed growing : Fields → List (List ℕ) → List ℕ) (words : List Text) (before now : Around S D W) (status : Status)
+    (command : Command) → command_of words ≡ Some command → RunsFor closed growing (Some command) before now status
+    → RunsCommand closed growing words before now status
+runs_as closed growing words before now status command is h =
+    subst (λ (c : Option Command). RunsFor closed growing c before now status) (sym is) h
 
 -- no byte was given
 untouched : (before : Told) → Some before ≡ Some (after 0 before)
 untouched before = ap Some (λ i. record { given = sym (append-nil before.given) i; left = before.left })
 
--- words that are a command say what it says, at its pace
-pub runs_command : (closed growing : Fields → List (List ℕ) → List ℕ) (words : List Text) (before now : Outside) (status : Status) (command : Command) → command_of words ≡ Some command
-    → Runs (SaysFor closed (Some command)) (PacesFor growing (Some command)) before now status → Runs (Says closed words) (Paces growing words) before now status
-runs_command closed growing words before now status command is h =
-    subst (λ (c : Option Command). Runs (SaysFor closed c) (PacesFor growing c) before now status) (sym is) h
-
--- words that are no command say so, and nothing is read
-faulty-over : (closed growing : Fields → List (List ℕ) → List ℕ) (told : Told) (here : Outside) (command : Option Command) → command ≡ None → here.told ≡ Some told
-    → RunsOver (SaysFor closed command) (PacesFor growing command) told here here words_answer
-faulty-over closed growing told here None is tells = record {
-  count = 0;
-  gave = tells ∙ untouched told;
-  written = [];
-  gains = Gains-nil here.written;
-  whole = [];
-  answered = words_answer;
-  given = (refl, refl);
-  missing = [];
-  front = refl;
-  all = λ one seven. refl;
-  cut = λ seven. absurd (omega arith);
-  says = λ whole. ((refl, refl), refl);
-  behind = λ five. absurd (omega arith);
-  paced = refl;
-}
-faulty-over closed growing told here (Some command) is tells = absurd (cc)
-
 -- no bytes are cut in their head
 no_head : (kind : Kind) → EndsInHead kind [] (Broken (FeedCut 0))
 no_head kind = (refl, omega arith)
 
--- of no bytes a command says nothing but that they are cut
-memory-over : (closed growing : Fields → List (List ℕ) → List ℕ) (told : Told) (here : Outside) (command : Option Command) → FeedsAreOne → here.told ≡ Some told
-    → RunsOver (SaysFor closed command) (PacesFor growing command) told here here memory_answer
-memory-over closed growing told here None one tells = record {
-  count = 0;
-  gave = tells ∙ untouched told;
-  written = [];
-  gains = Gains-nil here.written;
-  whole = [];
-  answered = words_answer;
-  given = (refl, refl);
-  missing = [];
-  front = refl;
-  all = λ one seven. refl;
-  cut = λ seven. absurd (omega arith);
-  says = λ whole. absurd (whole (inl refl));
-  behind = λ five. absurd (omega arith);
-  paced = refl;
-}
-memory-over closed growing told here (Some Wrap) one tells = record {
+-- and no byte was read behind the last one that judges them
+no_reach : (kind : Kind) → Reaches kind 0 FEED_HEAD_LEN (Broken (FeedCut 0))
+no_reach Units = refl
+no_reach Pictures = refl
+
+-- of no bytes a command over a feed says nothing but that they are cut
+memory-over : (kind : Kind) (Becomes : Fields → List ℕ → List ℕ → Type 0) (Said : List ℕ → List ℕ → Status → Type 0)
+    (growing : Fields → List (List ℕ) → List ℕ) (told : Told) (here : Outside) → FeedsAreOne
+    → Said [] [] (ending_answer 0 (Broken (FeedCut 0))) → here.told ≡ Some told
+    → RunsOver Said (KeepsPace kind Becomes growing) told here here memory_answer
+memory-over kind Becomes Said growing told here one said tells = record {
   count = 0;
   gave = tells ∙ untouched told;
   written = [];
   gains = Gains-nil here.written;
   whole = [];
   answered = ending_answer 0 (Broken (FeedCut 0));
-  given = inr (record { ending = Broken (FeedCut 0); feed = no_head Units; nothing = refl; answered = refl });
+  given = said;
   missing = [];
   front = refl;
   all = λ one seven. refl;
   cut = λ seven. absurd (omega arith);
   says = λ whole. absurd (whole (inl refl));
   behind = λ five. absurd (omega arith);
-  paced = paced-head Units IsPassedOn growing [] [] (Broken (FeedCut 0)) one (no_head Units) refl;
-}
-memory-over closed growing told here (Some Encode) one tells = record {
-  count = 0;
-  gave = tells ∙ untouched told;
-  written = [];
-  gains = Gains-nil here.written;
-  whole = [];
-  answered = ending_answer 0 (Broken (FeedCut 0));
-  given = inr (record { ending = Broken (FeedCut 0); feed = no_head Pictures; nothing = refl; answered = refl });
-  missing = [];
-  front = refl;
-  all = λ one seven. refl;
-  cut = λ seven. absurd (omega arith);
-  says = λ whole. absurd (whole (inl refl));
-  behind = λ five. absurd (omega arith);
-  paced = paced-head Pictures IsEncoded growing [] [] (Broken (FeedCut 0)) one (no_head Pictures) refl;
+  paced = paced-head kind Becomes growing [] [] (Broken (FeedCut 0)) one (no_head kind) (no_reach kind);
 }
 
-pub runs_fault : (closed growing : Fields → List (List ℕ) → List ℕ) (words : List Text) (here : Outside) (reason : WordsFault) → FeedsAreOne
-    → (reason ≡ Faulty → command_of words ≡ None) → Runs (Says closed words) (Paces growing words) here here (fault_answer reason)
-runs_fault closed growing words here reason one refused = on here.told refl reason refused
+-- memory was wanted before a command over a feed did anything
+run_memory : (kind : Kind) (Becomes : Fields → List ℕ → List ℕ → Type 0) (Said : List ℕ → List ℕ → Status → Type 0)
+    (growing : Fields → List (List ℕ) → List ℕ) (here : Outside) → FeedsAreOne → Said [] [] (ending_answer 0 (Broken (FeedCut 0)))
+    → Runs Said (KeepsPace kind Becomes growing) here here memory_answer
+run_memory kind Becomes Said growing here one said = on here.told refl
   where
-    on : (told : Option Told) → here.told ≡ told → (reason : WordsFault) → (reason ≡ Faulty → command_of words ≡ None)
-        → IfTold told here.told (λ t. RunsOver (Says closed words) (Paces growing words) t here here (fault_answer reason))
-    on None tells reason refused = tells
-    on (Some t) tells NoMemory refused = memory-over closed growing t here (command_of words) one tells
-    on (Some t) tells Faulty refused = faulty-over closed growing t here (command_of words) (refused refl) tells
+    on : (told : Option Told) → here.told ≡ told → IfTold told here.told (λ t. RunsOver Said (KeepsPace kind Becomes growing) t here here memory_answer)
+    on None tells = tells
+    on (Some t) tells = memory-over kind Becomes Said growing t here one said tells
+
+-- memory was wanted before a command over a take did anything
+view_memory : (Said : List ℕ → List ℕ → Status → Type 0) (here : Devices) → Views Said here here memory_answer
+view_memory Said here = on here.told
+  where
+    on : (told : Option Disk) → IfDiskTold told (λ disk. ViewsBytes Said disk.essence.reads here here memory_answer)
+    on None = tt
+    on (Some disk) = record {
+      written = [];
+      gains = Gains-nil here.written;
+      says = λ whole. absurd (whole (inl refl));
+      cut = λ seven. absurd (omega arith);
+      nothing = λ none. refl;
+    }
+
+-- no device was touched, and the words give no command, or memory for them was wanted
+fault_as : {S D W : Type 0} (closed growing : Fields → List (List ℕ) → List ℕ) (here : Around S D W) (command : Option Command) (reason : WordsFault)
+    → FeedsAreOne → (reason ≡ Faulty → command ≡ None) → RunsFor closed growing command here here (fault_answer reason)
+fault_as closed growing here None Faulty one refused = (refl, inl refl)
+fault_as closed growing here None NoMemory one refused = (refl, inr refl)
+fault_as closed growing here (Some command) Faulty one refused = absurd (let none = refused refl in cc)
+fault_as closed growing here (Some Wrap) NoMemory one refused =
+    (refl, run_memory Units IsPassedOn (Wraps closed) growing here.run one (inr (record { ending = Broken (FeedCut 0); feed = no_head Units; nothing = refl; answered = refl })))
+fault_as closed growing here (Some Encode) NoMemory one refused =
+    (refl, run_memory Pictures IsEncoded (Encodes closed) growing here.run one (inr (record { ending = Broken (FeedCut 0); feed = no_head Pictures; nothing = refl; answered = refl })))
+fault_as closed growing here (Some Check) NoMemory one refused = (refl, view_memory Checks here.view)
+fault_as closed growing here (Some (Frame number)) NoMemory one refused = (refl, view_memory (Shows number) here.view)
+
+pub runs_fault : {S D W : Type 0} (closed growing : Fields → List (List ℕ) → List ℕ) (words : List Text) (here : Around S D W) (reason : WordsFault) → FeedsAreOne
+    → (reason ≡ Faulty → command_of words ≡ None) → RunsCommand closed growing words here here (fault_answer reason)
+runs_fault closed growing words here reason one refused = fault_as closed growing here (command_of words) reason one refused
 
 -- the code of an answer for a feed isn't that of faulty words
 no_words : (fault : FeedFault) → (feed_answer fault).code ≢ 2
@@ -154,42 +148,72 @@ no_words_in count status (inr a) e =
     let seven : ◌≡◌ {A = ℕ} 7 2 = sym code ∙ e in
     omega arith
 
--- the causes of `wrap` are those of its words' run
-pub causes_wrap : (words : List Text) (before now : Counts) (status : Status) → command_of words ≡ Some Wrap → HasFeedCauses before now status → HasCauses words before now status
-causes_wrap words before now status is c = record {
-  answered = inl c.answered;
-  faulty = λ e. absurd (no_words_in now.sink status c.answered e);
-  refused = λ e. absurd (cc);
-  unrefused = λ e. absurd (cc);
-  devices = c.devices;
+-- nor that of an answer for a take
+no_words_of : (status : Status) → (status ≡ answer 0 0 0 0) ⊎ ((status ≡ memory_answer) ⊎ ((status.code ≡ 8) ⊎ ((status.code ≡ 6) ⊎ (status.code ≡ 7))))
+    → status.code ≢ 2
+no_words_of status (inl a) e =
+    let code = ap (λ (s : Status). s.code) a in
+    let zero : ◌≡◌ {A = ℕ} 0 2 = sym code ∙ e in
+    omega arith
+no_words_of status (inr (inl a)) e =
+    let code = ap (λ (s : Status). s.code) a in
+    let one : ◌≡◌ {A = ℕ} 1 2 = sym code ∙ e in
+    omega arith
+no_words_of status (inr (inr (inl eight))) e = omega arith
+no_words_of status (inr (inr (inr (inl six)))) e = omega arith
+no_words_of status (inr (inr (inr (inr seven)))) e = omega arith
+
+-- the causes of the command that the words name are theirs
+causes_as : {S D W : Type 0} (words : List Text) (before now : Around S D W) (status : Status) (command : Command) → command_of words ≡ Some command
+    → status.code ≢ 2 → CausesFor (Some command) before now status → HasCauses words before now status
+causes_as words before now status command is other h = record {
+  faulty = λ two. absurd (other two);
+  causes = subst (λ (c : Option Command). CausesFor c before now status) (sym is) h;
 }
 
--- and so are those of `encode`
-pub causes_encode : (words : List Text) (before now : Counts) (status : Status) → command_of words ≡ Some Encode → HasPictureCauses before now status → HasCauses words before now status
-causes_encode words before now status is c = record {
-  answered = inl answered;
-  faulty = λ e. absurd (no_words_in now.sink status answered e);
-  refused = λ e. absurd (cc);
-  unrefused = λ e. c.answered;
-  devices = c.devices;
-}
-  where
-    answered : IsReadAnswer status ⊎ (status ≡ sink_answer now.sink)
-    answered = ⊎_elim (λ a. inl (inl a)) (λ a. inr a) c.answered
+pub causes_wrap : {S D W : Type 0} (words : List Text) (before now : Around S D W) (status : Status) → command_of words ≡ Some Wrap
+    → HasFeedCauses before.run.counts now.run.counts status → HasCauses words before now status
+causes_wrap words before now status is c = causes_as words before now status Wrap is (no_words_in now.run.counts.sink status c.answered) c
 
--- the causes where the words give no command
-pub causes_fault : (words : List Text) (here : Counts) (fault : WordsFault) → (fault ≡ Faulty → command_of words ≡ None) → HasCauses words here here (fault_answer fault)
-causes_fault words here Faulty is = record {
-  answered = inr refl;
-  faulty = λ e. is refl;
-  refused = λ e. inl refl;
-  unrefused = λ e. absurd (let none = is refl in cc);
-  devices = record { source = λ e. absurd (omega arith); source_kept = λ e. inl refl; sink = λ e. absurd (omega arith); sink_kept = λ e. refl };
+pub causes_encode : {S D W : Type 0} (words : List Text) (before now : Around S D W) (status : Status) → command_of words ≡ Some Encode
+    → HasPictureCauses before.run.counts now.run.counts status → HasCauses words before now status
+causes_encode words before now status is c =
+    causes_as words before now status Encode is (no_words_in now.run.counts.sink status (⊎_elim (λ a. inl (inl a)) (λ a. inr a) c.answered)) c
+
+pub causes_check : {S D W : Type 0} (words : List Text) (before now : Around S D W) (status : Status) → command_of words ≡ Some Check
+    → HasTakeCauses before.view now.view status → HasCauses words before now status
+causes_check words before now status is c = causes_as words before now status Check is (no_words_of status c.answered) c
+
+pub causes_frame : {S D W : Type 0} (words : List Text) (before now : Around S D W) (status : Status) (number : ℕ) → command_of words ≡ Some (Frame number)
+    → HasTakeCauses before.view now.view status → HasCauses words before now status
+causes_frame words before now status number is c = causes_as words before now status (Frame number) is (no_words_of status c.answered) c
+
+-- the causes where no device was touched and memory was wanted
+memory_devices : (here : Counts) → HasDeviceCauses here here memory_answer
+memory_devices here =
+    record { source = λ e. absurd (omega arith); source_kept = λ e. inl refl; sink = λ e. absurd (omega arith); sink_kept = λ e. refl }
+
+memory_take : (here : Devices) → HasTakeCauses here here memory_answer
+memory_take here = record {
+  answered = inr (inl refl);
+  disk = λ e. absurd (omega arith);
+  disk_kept = λ e. refl;
+  sink = λ e. absurd (omega arith);
+  sink_kept = λ e. refl;
 }
-causes_fault words here NoMemory is = record {
-  answered = inl (inl (inl (0, Broken Memory, tt, refl)));
-  faulty = λ e. absurd (omega arith);
-  refused = λ e. inr refl;
-  unrefused = λ e. inl (0, Broken Memory, tt, refl);
-  devices = record { source = λ e. absurd (omega arith); source_kept = λ e. inl refl; sink = λ e. absurd (omega arith); sink_kept = λ e. refl };
-}
+
+-- the causes where the words give no command, or memory for them was wanted
+cause_as : {S D W : Type 0} (here : Around S D W) (command : Option Command) (fault : WordsFault) → (fault ≡ Faulty → command ≡ None)
+    → CausesFor command here here (fault_answer fault)
+cause_as here None Faulty refused = (record { run = refl; disk = refl }, inl refl)
+cause_as here None NoMemory refused = (record { run = refl; disk = refl }, inr refl)
+cause_as here (Some command) Faulty refused = absurd (let none = refused refl in cc)
+cause_as here (Some Wrap) NoMemory refused = record { answered = inl (inl (0, Broken Memory, tt, refl)); devices = memory_devices here.run.counts }
+cause_as here (Some Encode) NoMemory refused = record { answered = inl (0, Broken Memory, tt, refl); devices = memory_devices here.run.counts }
+cause_as here (Some Check) NoMemory refused = memory_take here.view
+cause_as here (Some (Frame number)) NoMemory refused = memory_take here.view
+
+pub causes_fault : {S D W : Type 0} (words : List Text) (here : Around S D W) (fault : WordsFault) → (fault ≡ Faulty → command_of words ≡ None)
+    → HasCauses words here here (fault_answer fault)
+causes_fault words here Faulty is = record { faulty = λ e. is refl; causes = cause_as here (command_of words) Faulty is }
+causes_fault words here NoMemory is = record { faulty = λ e. absurd (omega arith); causes = cause_as here (command_of words) NoMemory is }

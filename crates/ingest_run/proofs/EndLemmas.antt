@@ -19,7 +19,8 @@ use Rattle.run_parts.specs.Units.{RefusesUnit}
 use Rattle.run_parts.specs.Statuses.{feed_answer, ending_answer, unit_answer, end_answer, sink_answer}
 use Rattle.run_parts.specs.declared.unit.UnitFault.{UnitFault}
 use Rattle.ingest_run.proofs.UnitLemmas.{unit_code}
-use Rattle.ingest_run.specs.inner.Steps.{StaysSilent, HasEndCause, HasPictureCauses}
+use Rattle.ingest_run.specs.inner.Steps.{StaysSilent, HasEndCause}
+use Rattle.ingest_run.specs.Causes.{HasPictureCauses}
 
 -- what isn't told before isn't told after, where something holds of what is told
 pub silent_so : (told now : Option Told) (P : Told → Type 0) → IfTold told now P → StaysSilent told now

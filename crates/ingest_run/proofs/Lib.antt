@@ -4,9 +4,12 @@ pub mod ExitLemmas
 pub mod GainLemmas
 pub mod EncodeLemmas
 pub mod MessageLemmas
+pub mod OptionLemmas
+pub mod PathLemmas
 pub mod ProgramLemmas
 pub mod RefusedLemmas
 pub mod RunLemmas
+pub mod TakeLemmas
 pub mod WordsLemmas
 pub mod UnitLemmas
 pub mod WrapLemmas

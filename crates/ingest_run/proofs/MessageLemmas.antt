@@ -7,11 +7,12 @@ use Rattle.raw_feed.specs.declared.fault.FeedFault.{FeedFault}
 use Rattle.raw_feed.specs.declared.fault.FeedFault.TheVariants.{Memory as NoMemory, FeedHead, Marker, FeedCut, SourceFault, TooLong, Sample, UnitLong}
 use Rattle.run_parts.specs.Statuses.{feed_answer}
 use Rattle.ingest_run.specs.declared.ended.RunFault.{RunFault}
-use Rattle.ingest_run.specs.declared.ended.RunFault.TheVariants.{Words, Feed, Full, Unit as Refused, Memory, Sink}
+use Rattle.ingest_run.specs.declared.ended.RunFault.TheVariants.{Words, Feed, Full, Unit as Refused, Memory, Sink, Take}
 use Rattle.ingest_run.specs.declared.words.WordsFault.TheVariants.{Memory as WantsMemory, Faulty}
 use Rattle.ingest_run.specs.Messages.{Taken, IsOneLine, Reports, SaysAnswer, closing, fault_line, messages_of}
 use Rattle.ingest_run.specs.inner.Answers.{run_answer}
 use Rattle.ingest_run.proofs.GainLemmas.{reports_none}
+use Rattle.ingest_run.proofs.TakeLemmas.{take_code}
 use Rattle.ingest_run.proofs.UnitLemmas.{unit_code}
 
 -- a text that fits isn't cut
@@ -42,6 +43,7 @@ fault_code (Full items) e = omega arith
 fault_code (Refused unit fault) e = let eight = unit_code unit fault in omega (arith, eight, e)
 fault_code Memory e = omega arith
 fault_code (Sink count) e = omega arith
+fault_code (Take fault) e = take_code fault e
 
 -- the messages of a fault are its line, its sentence and what stands behind that
 pub says_fault : (fault : RunFault) (first sentence third : List ℕ) (before now : Taken) → IsOneLine sentence

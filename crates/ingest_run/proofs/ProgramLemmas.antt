@@ -6,39 +6,36 @@ use Rattle.rec_bytes.specs.Configuration.{Fields}
 use Rattle.rec_bytes.specs.Faults.{HasCause}
 use Rattle.rec_bytes.specs.declared.status.Status.{Status}
 use Rattle.rec_bytes.specs.declared.status.Failed.{Failed}
-use Rattle.raw_feed.specs.Told.{Told}
 use Rattle.raw_feed.specs.Written.{Writes}
-use Rattle.run_parts.specs.Causes.{counts}
 use Rattle.run_parts.specs.Statuses.{answer, sink_answer}
-use Rattle.ingest_run.specs.Programs.{AnswersCommand, AnswersHelp, AnswersFor}
-use Rattle.ingest_run.specs.Runs.{Outside, outside}
+use Rattle.ingest_run.specs.Commands.{Around}
+use Rattle.ingest_run.specs.Messages.{taken}
+use Rattle.ingest_run.specs.Programs.{AnswersCommand, AnswersHelp, AnswersFor, WritesHelp}
 use Rattle.ingest_run.proofs.GainLemmas.{Gains-first, Gains-first_front}
 
 -- the text of help was written
-pub help_done : (text : List ℕ) (told : Option Told) (source : ℕ) (old new : Option (List ℕ)) (faults faults_now : ℕ) → Writes {E = Failed} old new (Ok tt) text → faults_now ≡ faults
-    → AnswersHelp text (outside told source old faults) (outside told source new faults_now) (answer 0 0 0 0)
-help_done text told source old new faults faults_now w kept = record {
-  told = refl;
-  source = refl;
+pub help_done : (text : List ℕ) (old new : Option (List ℕ)) (faults faults_now : ℕ) → Writes {E = Failed} old new (Ok tt) text → faults_now ≡ faults
+    → WritesHelp text (taken old faults) (taken new faults_now) (answer 0 0 0 0)
+help_done text old new faults faults_now w kept = record {
   written = text;
   missing = [];
   front = sym (append-nil text);
   gains = Gains-first Failed old new text w;
-  ends = inl (refl, refl, λ i. counts source (kept i));
+  ends = inl (refl, refl, kept);
 }
 
 -- the sink failed inside it
-pub help_failed : (text : List ℕ) (told : Option Told) (source : ℕ) (old new : Option (List ℕ)) (faults faults_now : ℕ) (e : Failed) → Writes old new (Err e) text → HasCause {T = Unit {0}} faults faults_now (Err e)
-    → AnswersHelp text (outside told source old faults) (outside told source new faults_now) (sink_answer faults_now)
-help_failed text told source old new faults faults_now e w cause =
+pub help_failed : (text : List ℕ) (old new : Option (List ℕ)) (faults faults_now : ℕ) (e : Failed) → Writes old new (Err e) text → HasCause {T = Unit {0}} faults faults_now (Err e)
+    → WritesHelp text (taken old faults) (taken new faults_now) (sink_answer faults_now)
+help_failed text old new faults faults_now e w cause =
     let piece = Gains-first_front old new e text w in
-    record { told = refl; source = refl; written = piece.0; missing = piece.1; front = piece.2; gains = piece.3; ends = inr (refl, cause.failed, piece.4) }
+    record { written = piece.0; missing = piece.1; front = piece.2; gains = piece.3; ends = inr (refl, cause.failed, piece.4) }
 
 -- help goes before any command
-pub answers_help : (closed growing : Fields → List (List ℕ) → List ℕ) (help : Option (List ℕ)) (text : List ℕ) (words : List Text) (before now : Outside) (status : Status)
-    → help ≡ Some text → AnswersHelp text before now status → AnswersFor closed growing help words before now status
+pub answers_help : {S D W : Type 0} (closed growing : Fields → List (List ℕ) → List ℕ) (help : Option (List ℕ)) (text : List ℕ) (words : List Text) (before now : Around S D W)
+    (status : Status) → help ≡ Some text → AnswersHelp text before now status → AnswersFor closed growing help words before now status
 answers_help closed growing help text words before now status is h = rw is h
 
-pub answers_command : (closed growing : Fields → List (List ℕ) → List ℕ) (help : Option (List ℕ)) (words : List Text) (before now : Outside) (status : Status)
-    → help ≡ None → AnswersCommand closed growing words before now status → AnswersFor closed growing help words before now status
+pub answers_command : {S D W : Type 0} (closed growing : Fields → List (List ℕ) → List ℕ) (help : Option (List ℕ)) (words : List Text) (before now : Around S D W)
+    (status : Status) → help ≡ None → AnswersCommand closed growing words before now status → AnswersFor closed growing help words before now status
 answers_command closed growing help words before now status is h = rw is h

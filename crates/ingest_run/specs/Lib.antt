@@ -1,4 +1,5 @@
 pub mod Causes
+pub mod Commands
 pub mod Helps
 pub mod inner
 pub mod Messages

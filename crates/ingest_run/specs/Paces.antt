@@ -1,12 +1,10 @@
--- How soon a run writes and how far it reads, for the words (own). docs/ARCHITECTURE.md, "The run".
-use Rattle.std.specs.Prelude.{◌≡◌, ◌≢◌, ℕ, List, [], ◌∷◌, ◌++◌, length, Option, Some, None}
+-- How soon a run writes and how far it reads (own). docs/ARCHITECTURE.md, "The run".
+use Rattle.std.specs.Prelude.{◌≡◌, ◌≢◌, ℕ, List, [], ◌∷◌, ◌++◌, length}
 use Rattle.std.specs.List.{AllZip}
-use Rattle.clap.specs.Walk.{Text}
 use Rattle.rec_bytes.specs.Configuration.{Fields}
 use Rattle.picture_plane.specs.Pictures.{Planes}
 use Rattle.raw_feed.specs.declared.head.TheConstants.{FEED_HEAD_LEN}
 use Rattle.raw_feed.specs.declared.kind.Kind.{Kind}
-use Rattle.raw_feed.specs.declared.kind.Kind.TheVariants.{Units, Pictures}
 use Rattle.raw_feed.specs.Items.{Ending, Clean}
 use Rattle.raw_feed.specs.Breaks.{Reaches}
 use Rattle.raw_feed.specs.Feeds.{IsFeedOf, EndsInHead}
@@ -14,9 +12,6 @@ use Rattle.raw_feed.specs.HasRead.{behind_units}
 use Rattle.raw_feed.specs.Pictures.{IsPictureFor, picture_bytes}
 use Rattle.frame_codec.specs.Coded.{IsCodedFrame}
 use Rattle.run_parts.specs.Units.{IsRead}
-use Rattle.ingest_run.specs.declared.words.Command.{Command}
-use Rattle.ingest_run.specs.declared.words.Command.TheVariants.{Wrap, Encode}
-use Rattle.ingest_run.specs.Words.{command_of}
 
 -- a unit of a feed stands in the file of `wrap` as it is, where it is read
 abbrev pub IsPassedOn : Fields → List ℕ → List ℕ → Type 0
@@ -49,13 +44,3 @@ pub record KeepsPace (kind : Kind) (Becomes : Fields → List ℕ → List ℕ �
       → IsFeedOf kind given config (units ++ unit ∷ []) ending → BeginsFile Becomes growing config units written
   pub ahead : (config : Fields) (units : List (List ℕ)) (ending : Ending)
       → IsFeedOf kind given config units ending → ending ≢ Clean → BeginsFile Becomes growing config units written
-
--- the pace of a command; for words that are no command nothing is read
-abbrev pub PacesFor : (Fields → List (List ℕ) → List ℕ) → Option Command → List ℕ → List ℕ → Type 0
-PacesFor growing None given written = given ≡ []
-PacesFor growing (Some Wrap) given written = KeepsPace Units IsPassedOn growing given written
-PacesFor growing (Some Encode) given written = KeepsPace Pictures IsEncoded growing given written
-
--- the pace of a run, whatever becomes of it
-abbrev pub Paces : (Fields → List (List ℕ) → List ℕ) → List Text → List ℕ → List ℕ → Type 0
-Paces growing words = PacesFor growing (command_of words)

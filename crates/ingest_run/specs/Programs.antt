@@ -4,44 +4,40 @@ use Rattle.clap.specs.Walk.{Text}
 use Rattle.rec_bytes.specs.Configuration.{Fields}
 use Rattle.rec_bytes.specs.Faults.{Rose}
 use Rattle.rec_bytes.specs.declared.status.Status.{Status}
+use Rattle.run_parts.specs.Gains.{Gains, Lacks}
 use Rattle.run_parts.specs.Statuses.{answer, memory_answer, words_answer, sink_answer}
 use Rattle.ingest_run.specs.declared.words.WordsFault.{WordsFault}
 use Rattle.ingest_run.specs.declared.words.WordsFault.TheVariants.{Memory, Faulty}
 use Rattle.ingest_run.specs.Causes.{HasCauses}
+use Rattle.ingest_run.specs.Commands.{Around, RunsCommand}
 use Rattle.ingest_run.specs.Helps.{help_of}
-use Rattle.ingest_run.specs.Messages.{Taken, SaysAnswer}
-use Rattle.ingest_run.specs.Paces.{Paces}
-use Rattle.run_parts.specs.Gains.{Gains, Lacks}
-use Rattle.ingest_run.specs.Runs.{Outside, Runs, Says}
-use Rattle.ingest_run.specs.Words.{command_of}
+use Rattle.ingest_run.specs.Messages.{Taken, SaysAnswer, taken}
 
--- nothing was read and nothing was written
-pub record StaysIdle (before now : Outside) : Type 0 where
-  pub told : now.told ≡ before.told
-  pub written : now.written ≡ before.written
-
--- the one call of a command: what it wrote and answered, that faulty words touch nothing, and the cause of the answer
-pub record AnswersCommand (closed growing : Fields → List (List ℕ) → List ℕ) (words : List Text) (before now : Outside)
+-- the one call of a command: what it did and answered, and the cause of the answer
+pub record AnswersCommand {S D W : Type 0} (closed growing : Fields → List (List ℕ) → List ℕ) (words : List Text) (before now : Around S D W)
     (status : Status) : Type 0 where
-  pub ran : Runs (Says closed words) (Paces growing words) before now status
-  pub idle : command_of words ≡ None → StaysIdle before now
-  pub cause : HasCauses words before.counts now.counts status
+  pub ran : RunsCommand closed growing words before now status
+  pub cause : HasCauses words before now status
 
 -- all was done and the whole text was written, or the sink failed and lacks a part of it
-abbrev pub EndsHelp : List ℕ → Outside → Outside → Status → Type 0
+abbrev pub EndsHelp : List ℕ → Taken → Taken → Status → Type 0
 EndsHelp missing before now status =
-    ((status ≡ answer 0 0 0 0) × (missing ≡ []) × (now.counts ≡ before.counts))
-    ⊎ ((status ≡ sink_answer now.counts.sink) × Rose before.counts.sink now.counts.sink × Lacks before.written missing)
+    ((status ≡ answer 0 0 0 0) × (missing ≡ []) × (now.faults ≡ before.faults))
+    ⊎ ((status ≡ sink_answer now.faults) × Rose before.faults now.faults × Lacks before.written missing)
 
--- a text of help was written, or a front of it where the sink failed; nothing was read
-pub record AnswersHelp (text : List ℕ) (before now : Outside) (status : Status) : Type 0 where
-  pub told : now.told ≡ before.told
-  pub source : now.counts.source ≡ before.counts.source
+-- a text of help was written, or a front of it where the sink failed
+pub record WritesHelp (text : List ℕ) (before now : Taken) (status : Status) : Type 0 where
   pub written : List ℕ
   pub missing : List ℕ
   pub front : text ≡ written ++ missing
   pub gains : Gains before.written now.written written
   pub ends : EndsHelp missing before now status
+
+-- a text of help was written, and neither the feed was touched nor the disk
+pub record AnswersHelp {S D W : Type 0} (text : List ℕ) (before now : Around S D W) (status : Status) : Type 0 where
+  pub feed : now.feed ≡ before.feed
+  pub disk : now.disk ≡ before.disk
+  pub help : WritesHelp text (taken before.run.written before.run.counts.sink) (taken now.run.written now.run.counts.sink) status
 
 -- the answer where the words can't be read
 abbrev pub fault_answer : WordsFault → Status
@@ -49,14 +45,14 @@ fault_answer Memory = memory_answer
 fault_answer Faulty = words_answer
 
 -- help goes before any command
-abbrev pub AnswersFor : (Fields → List (List ℕ) → List ℕ) → (Fields → List (List ℕ) → List ℕ) → Option (List ℕ) → List Text
-    → Outside → Outside → Status → Type 0
+abbrev pub AnswersFor : {S D W : Type 0} → (Fields → List (List ℕ) → List ℕ) → (Fields → List (List ℕ) → List ℕ) → Option (List ℕ) → List Text
+    → Around S D W → Around S D W → Status → Type 0
 AnswersFor closed growing (Some text) words before now status = AnswersHelp text before now status
 AnswersFor closed growing None words before now status = AnswersCommand closed growing words before now status
 
--- what a program writes and answers for its words; those that can't be read touch nothing
-abbrev pub AnswersWords : (Fields → List (List ℕ) → List ℕ) → (Fields → List (List ℕ) → List ℕ) → Result (List Text) WordsFault
-    → Outside → Outside → Status → Type 0
+-- what a program does and answers for its words; those that can't be read touch nothing
+abbrev pub AnswersWords : {S D W : Type 0} → (Fields → List (List ℕ) → List ℕ) → (Fields → List (List ℕ) → List ℕ) → Result (List Text) WordsFault
+    → Around S D W → Around S D W → Status → Type 0
 AnswersWords closed growing (Ok words) before now status = AnswersFor closed growing (help_of words) words before now status
 AnswersWords closed growing (Err fault) before now status = (status ≡ fault_answer fault) × (now ≡ before)
 

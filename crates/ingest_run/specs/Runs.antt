@@ -1,7 +1,6 @@
--- What a run writes and answers for the words and the feed's bytes (own). docs/ARCHITECTURE.md, "The run".
-use Rattle.std.specs.Prelude.{◌≡◌, ◌≢◌, ◌⊎◌, ℕ, List, [], ◌∷◌, ◌++◌, length, take, All, Option, Some, None}
+-- What a run over a feed writes and answers for the feed's bytes (own). docs/ARCHITECTURE.md, "The run".
+use Rattle.std.specs.Prelude.{◌≡◌, ◌≢◌, ◌⊎◌, ℕ, List, [], ◌∷◌, ◌++◌, length, take, All, Option, Some}
 use Rattle.std.specs.List.{AllZip}
-use Rattle.clap.specs.Walk.{Text}
 use Rattle.rec_bytes.specs.Configuration.{Fields}
 use Rattle.rec_bytes.specs.declared.status.Status.{Status}
 use Rattle.picture_plane.specs.Pictures.{Planes}
@@ -15,12 +14,9 @@ use Rattle.raw_feed.specs.Reading.{IfTold}
 use Rattle.frame_codec.specs.Coded.{IsCodedFrame}
 use Rattle.run_parts.specs.Causes.{Counts}
 use Rattle.run_parts.specs.Gains.{Gains, Lacks}
-use Rattle.run_parts.specs.Statuses.{ending_answer, unit_answer, words_answer}
+use Rattle.run_parts.specs.Statuses.{ending_answer, unit_answer}
 use Rattle.run_parts.specs.Units.{IsRead, RefusesUnit}
 use Rattle.run_parts.specs.declared.unit.UnitFault.{UnitFault}
-use Rattle.ingest_run.specs.declared.words.Command.{Command}
-use Rattle.ingest_run.specs.declared.words.Command.TheVariants.{Wrap, Encode}
-use Rattle.ingest_run.specs.Words.{command_of}
 
 -- the feed begins with this configuration and these units, whatever follows them
 pub record BeginsWith (bytes : List ℕ) (config : Fields) (units : List (List ℕ)) : Type 0 where
@@ -78,16 +74,6 @@ pub record EncodesPictures (closed : Fields → List (List ℕ) → List ℕ) (b
 abbrev pub Encodes : (Fields → List (List ℕ) → List ℕ) → List ℕ → List ℕ → Status → Type 0
 Encodes closed bytes written status = EncodesPictures closed bytes written status ⊎ RefusesHead Pictures bytes written status
 
--- what a command writes and answers; words that are no command write nothing
-abbrev pub SaysFor : (Fields → List (List ℕ) → List ℕ) → Option Command → List ℕ → List ℕ → Status → Type 0
-SaysFor closed None bytes written status = (written ≡ []) × (status ≡ words_answer)
-SaysFor closed (Some Wrap) bytes written status = Wraps closed bytes written status
-SaysFor closed (Some Encode) bytes written status = Encodes closed bytes written status
-
--- what a run writes and answers where no memory is wanted and nothing fails
-abbrev pub Says : (Fields → List (List ℕ) → List ℕ) → List Text → List ℕ → List ℕ → Status → Type 0
-Says closed words = SaysFor closed (command_of words)
-
 -- the answer says that memory was wanted, the source failed or the sink failed
 abbrev pub IsCutShort : Status → Type 0
 IsCutShort status = (status.code ≡ 1) ⊎ ((status.code ≡ 5) ⊎ (status.code ≡ 7))
@@ -97,7 +83,7 @@ IsCutShort status = (status.code ≡ 1) ⊎ ((status.code ≡ 5) ⊎ (status.cod
 abbrev pub IsOpenEnd : Status → Type 0
 IsOpenEnd status = (status.code ≡ 0) ⊎ ((status.number ≡ 112) ⊎ (status.number ≡ 115))
 
--- what the devices of a run show: what its source tells, what was written, and how often each has failed
+-- what the devices of a run over a feed show: what its source tells, what was written, and how often each has failed
 pub record Outside : Type 0 where
   pub told : Option Told
   pub written : Option (List ℕ)

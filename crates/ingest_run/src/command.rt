@@ -1,13 +1,13 @@
 //! The one call of a command.
 
-ghost use Rattle.std.specs.Prelude.{◌≡◌, ◌≤◌, ℕ, List, None, length};
+ghost use Rattle.std.specs.Prelude.{◌≡◌, ◌≤◌, ℕ, List, length};
 ghost use Rattle.rec_bytes.specs.Configuration.{Fields};
-ghost use Rattle.run_parts.specs.Causes.{counts};
+ghost use Rattle.take_disk.specs.Calls.{Stays};
+ghost use Rattle.take_disk.specs.Elapsed.{Elapsed};
+ghost use Rattle.take_commands.specs.Answers.{take_answer};
 ghost use Rattle.ingest_run.specs.Causes.{HasCauses};
-ghost use Rattle.ingest_run.specs.Programs.{StaysIdle};
-ghost use Rattle.ingest_run.specs.Paces.{Paces};
-ghost use Rattle.ingest_run.specs.Runs.{Runs, Says, outside};
-ghost use Rattle.ingest_run.specs.Words.{command_of, texts};
+ghost use Rattle.ingest_run.specs.Commands.{RunsCommand, around};
+ghost use Rattle.ingest_run.specs.Words.{texts};
 ghost use Rattle.ingest_run.specs.inner.Answers.{run_answer};
 
 use crate::encode::encode;
@@ -16,53 +16,74 @@ use crate::words::{Command, read_command};
 use crate::wrap::wrap;
 use raw_feed::{Feed, MAX_UNIT, Sink, Source, feeds_are_one};
 use rec_bytes::Status;
+use take_commands::{TakeFault, check, frame};
+use take_disk::TakeDisk;
 use take_layout::TakeLayout;
 
 /// Runs the command that the words name: `wrap` reads a feed of units and writes their closed file, `encode` reads a feed of
-/// pictures and writes the closed file of their frames.
+/// pictures and writes the closed file of their frames, `check` says what the file of a take holds, and `frame` writes the
+/// samples of one of its pictures.
 ///
-/// `Says` has what each command writes and answers, and `Runs` what is left of it where memory is wanted or a device
-/// fails. The answer's number, place and second number are those of the refusal (docs/FORMATS.md, "Refusals").
-pub fn plain<R: AllocGlobal, N: Feed, L: TakeLayout, S: Source<N>, W: Sink>(
+/// `RunsCommand` has what each command does and answers. The answer's number, place and second number are those of the refusal
+/// (docs/FORMATS.md, "Refusals").
+pub fn plain<R: AllocGlobal, N: Feed, L: TakeLayout, S: Source<N>, D: TakeDisk, W: Sink>(
     rt: &R,
     words: &[String],
     feed: &mut S,
+    disk: &mut D,
     out: &mut W,
 ) -> Status
     requires units { (cfg : Fields) (unit : List ℕ) → length unit ≤ MAX_UNIT → L.is_unit cfg unit }
-    ensures ran { Runs (Says L.closed (texts words.now)) (Paces L.growing (texts words.now))
-        (outside (S.told feed.old) (S.fault_count feed.old) (W.written out.old) (W.fault_count out.old))
-        (outside (S.told feed.new) (S.fault_count feed.new) (W.written out.new) (W.fault_count out.new)) result }
-    ensures idle { command_of (texts words.now) ≡ None → StaysIdle
-        (outside (S.told feed.old) (S.fault_count feed.old) (W.written out.old) (W.fault_count out.old))
-        (outside (S.told feed.new) (S.fault_count feed.new) (W.written out.new) (W.fault_count out.new)) }
+    ensures ran { RunsCommand L.closed L.growing (texts words.now)
+        (around S.told S.fault_count D.told D.fault_count W.written W.fault_count feed.old disk.old out.old)
+        (around S.told S.fault_count D.told D.fault_count W.written W.fault_count feed.new disk.new out.new) result }
+    ensures stays { Stays (D.told disk.old) (D.told disk.new) (D.length_of disk.old) (D.length_of disk.new) }
+    ensures time { Elapsed (D.moment disk.old) (D.moment disk.new) (D.images_since disk.old) (D.images_since disk.new)
+        (D.made disk.old) (D.made disk.new) }
     ensures cause { HasCauses (texts words.now)
-        (counts (S.fault_count feed.old) (W.fault_count out.old)) (counts (S.fault_count feed.new) (W.fault_count out.new)) result }
+        (around S.told S.fault_count D.told D.fault_count W.written W.fault_count feed.old disk.old out.old)
+        (around S.told S.fault_count D.told D.fault_count W.written W.fault_count feed.new disk.new out.new) result }
 {
-    run_status(run_words::<R, N, L, S, W>(rt, words, feed, out))
+    run_status(run_words::<R, N, L, S, D, W>(rt, words, feed, disk, out))
 }
 
 /// The same, and how the run ended.
-pub(crate) fn run_words<R: AllocGlobal, N: Feed, L: TakeLayout, S: Source<N>, W: Sink>(
+pub(crate) fn run_words<R: AllocGlobal, N: Feed, L: TakeLayout, S: Source<N>, D: TakeDisk, W: Sink>(
     rt: &R,
     words: &[String],
     feed: &mut S,
+    disk: &mut D,
     out: &mut W,
 ) -> Result<(), RunFault>
     requires units { (cfg : Fields) (unit : List ℕ) → length unit ≤ MAX_UNIT → L.is_unit cfg unit }
-    ensures ran { Runs (Says L.closed (texts words.now)) (Paces L.growing (texts words.now))
-        (outside (S.told feed.old) (S.fault_count feed.old) (W.written out.old) (W.fault_count out.old))
-        (outside (S.told feed.new) (S.fault_count feed.new) (W.written out.new) (W.fault_count out.new)) (run_answer result) }
-    ensures idle { command_of (texts words.now) ≡ None → StaysIdle
-        (outside (S.told feed.old) (S.fault_count feed.old) (W.written out.old) (W.fault_count out.old))
-        (outside (S.told feed.new) (S.fault_count feed.new) (W.written out.new) (W.fault_count out.new)) }
+    ensures ran { RunsCommand L.closed L.growing (texts words.now)
+        (around S.told S.fault_count D.told D.fault_count W.written W.fault_count feed.old disk.old out.old)
+        (around S.told S.fault_count D.told D.fault_count W.written W.fault_count feed.new disk.new out.new) (run_answer result) }
+    ensures stays { Stays (D.told disk.old) (D.told disk.new) (D.length_of disk.old) (D.length_of disk.new) }
+    ensures time { Elapsed (D.moment disk.old) (D.moment disk.new) (D.images_since disk.old) (D.images_since disk.new)
+        (D.made disk.old) (D.made disk.new) }
     ensures cause { HasCauses (texts words.now)
-        (counts (S.fault_count feed.old) (W.fault_count out.old)) (counts (S.fault_count feed.new) (W.fault_count out.new)) (run_answer result) }
+        (around S.told S.fault_count D.told D.fault_count W.written W.fault_count feed.old disk.old out.old)
+        (around S.told S.fault_count D.told D.fault_count W.written W.fault_count feed.new disk.new out.new) (run_answer result) }
 {
     feeds_are_one();
     match read_command(rt.alloc(), words) {
         Ok(Command::Wrap) => wrap::<N, L, S, W>(rt.alloc(), feed, out),
         Ok(Command::Encode) => encode::<N, L, S, W>(rt.alloc(), feed, out),
+        Ok(Command::Check) => take_end(check(rt.alloc(), disk, out)),
+        Ok(Command::Frame { number }) => {
+            take_end(frame(rt.alloc(), disk, u64::from(number), out))
+        }
         Err(fault) => Err(RunFault::Words(fault)),
+    }
+}
+
+/// How a run ended that looked at a take.
+fn take_end(ended: Result<(), TakeFault>) -> Result<(), RunFault>
+    ensures { run_answer result ≡ take_answer ended }
+{
+    match ended {
+        Ok(()) => Ok(()),
+        Err(fault) => Err(RunFault::Take(fault)),
     }
 }

@@ -7,10 +7,11 @@ ghost use Rattle.raw_feed.specs.declared.head.TheConstants.{FEED_HEAD_LEN};
 ghost use Rattle.raw_feed.specs.Pictures.{IsPictureFor, picture_bytes};
 ghost use Rattle.run_parts.specs.Causes.{counts};
 ghost use Rattle.run_parts.specs.Statuses.{end_answer};
+ghost use Rattle.ingest_run.specs.Causes.{HasPictureCauses};
 ghost use Rattle.ingest_run.specs.Paces.{IsEncoded, KeepsPace};
 ghost use Rattle.ingest_run.specs.Runs.{Runs, Encodes, outside};
 ghost use Rattle.ingest_run.specs.inner.Answers.{run_answer};
-ghost use Rattle.ingest_run.specs.inner.Steps.{OnItem, IfEnd, ReadsUnit, EndsReading, StaysSilent, HasEndCause, HasPictureCauses};
+ghost use Rattle.ingest_run.specs.inner.Steps.{OnItem, IfEnd, ReadsUnit, EndsReading, StaysSilent, HasEndCause};
 
 use crate::ended::{RunFault, run_end};
 use crate::next::{Next, read_end};

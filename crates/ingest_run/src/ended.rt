@@ -10,6 +10,7 @@ use rec_bytes::Status;
 use run_parts::{
     CommandEnd, FeedEnd, MEMORY, PutFault, UnitFault, feed_status, refusal, unit_status,
 };
+use take_commands::{TakeFault, take_status};
 use thiserror::Error;
 
 /// Why a run didn't do all that it was asked for, or did it for a part of its feed alone.
@@ -33,6 +34,9 @@ pub(crate) enum RunFault {
     /// The sink failed; the number is its count of faults.
     #[error("the output has failed, as its fault number {count}")]
     Sink { count: u64 },
+    /// A command that looks at a take ended before it had written all.
+    #[error(transparent)]
+    Take(TakeFault),
 }
 
 /// The answer of a run that ended so.
@@ -47,6 +51,7 @@ pub(crate) fn run_status(ended: Result<(), RunFault>) -> Status
         Err(RunFault::Unit { unit, fault }) => unit_status(unit, fault),
         Err(RunFault::Memory) => MEMORY,
         Err(RunFault::Sink { count }) => refusal(7, 117, count, 0),
+        Err(RunFault::Take(fault)) => take_status(Err(fault)),
     }
 }
 
@@ -81,7 +86,7 @@ mod tests {
     #[test]
     fn each_end_has_its_answer(rt: HostRuntime) {
         let unit = UnitFault::Differs { at: 18 };
-        let cases: [(Result<(), RunFault>, [u64; 4]); 7] = [
+        let cases: [(Result<(), RunFault>, [u64; 4]); 9] = [
             (Ok(()), [0, 0, 0, 0]),
             (Err(RunFault::Words(WordsFault::Faulty)), [2, 0, 0, 0]),
             (
@@ -98,6 +103,17 @@ mod tests {
             ),
             (Err(RunFault::Memory), [1, 1, 0, 0]),
             (Err(RunFault::Sink { count: 3 }), [7, 117, 3, 0]),
+            (
+                Err(RunFault::Take(TakeFault::Disk { count: 2 })),
+                [6, 83, 2, 0],
+            ),
+            (
+                Err(RunFault::Take(TakeFault::Past {
+                    count: 9,
+                    number: 12,
+                })),
+                [8, 93, 9, 12],
+            ),
         ];
         for (ended, want) in cases {
             let status = run_status(ended);

@@ -9,7 +9,7 @@ ghost use Rattle.ingest_run.specs.Words.{texts};
 /// `--help`, `-h` and `help`.
 pub const SERVER: &str = "\
 ingest_server - takes in pictures or finished ProRes frames and writes an MXF
-file of them
+file of them, and looks at the file of a take
 
 Usage: ingest_server COMMAND
        ingest_server --help | --version
@@ -19,17 +19,22 @@ Commands:
           closed MXF OP1a file of them to standard output
   encode  read a feed of pictures on standard input and write one closed MXF
           OP1a file of their ProRes frames to standard output
+  check   read the file of a take in a folder, judge whether it is a closed
+          MXF OP1a file, and say in one line what it holds
+  frame   read the file of a take in a folder and write the samples of one of
+          its pictures to standard output
 
 Help:
   -h, --help, help    print this text
   COMMAND --help      print what the command reads and writes
   --version           print the version
 
-A command reads its input once, from the first byte to the last. In memory
-it keeps room for one frame, of encode for the longest one and for a picture
-too, 24 bytes for each frame, and a buffer for what stands between frames.
-Where the input breaks off or breaks its form, or where a frame is refused,
-the file of the whole frames before that place has been written.
+wrap and encode read their input once, from the first byte to the last. In
+memory they keep room for one frame, encode for the longest one and for a
+picture too, 24 bytes for each frame, and a buffer for what stands between
+frames. Where the input breaks off or breaks its form, or where a frame is
+refused, the file of the whole frames before that place has been written.
+check and frame read no input, and write to no file.
 
 Exit status, with the number that stands behind `refusal` in the fault line:
   0    everything was read, and everything was written
@@ -43,8 +48,12 @@ Exit status, with the number that stands behind `refusal` in the fault line:
          115  a sample is above 1023 (encode)
          116  a frame is longer than 2^28 bytes (wrap)
   5    standard input could not be read (113)
+  6    the file of a take could not be read (83)
   7    standard output could not be written (117)
-  8    a frame is refused (wrap):
+  8    something that was read is refused:
+         73   the file is not a closed OP1a file (check, frame)
+         93   the file has no frame of this number (frame)
+       a frame of wrap, or the frame that frame was asked for:
          30   it has fewer bytes than the least frame header
          31   its bytes 4 to 7 are not icpf
          32   its frame size is not the number of its bytes
@@ -58,14 +67,29 @@ Exit status, with the number that stands behind `refusal` in the fault line:
               or passes the frame
          41   a slice passes its coded picture
          42   its width, height or interlace mode is not the configured one
+              (wrap)
+       the frame that frame was asked for:
+         39   it loads one of the two quantisation matrices alone
+         20   a slice has fewer than six bytes
+         21   the header size of a slice is out of range
+         22   the quantiser index of a slice is out of range
+         23   the parts of a slice pass it
+         11   the bits of a slice's part end inside what is due
+         12   a code in a slice has more than 32 bits
+         24   a run in a slice passes the last level
+         25   a product in a slice is above 2^22
   10   the feed has more frames or pictures than its configuration allows (95)
 
 Where the status is not 0, standard error has the line
   ingest_server: status C refusal N at A other O
 A is the byte of the input at which a feed breaks its form, counted from 0.
-For status 8 it is the byte of the frame (for 30 the frame's length), and O
-is the frame's number, both counted from 0. For status 10 it is the number of
-frames that the configuration allows, and for 5 and 7 the number of faults.
+For 30 to 41 it is the byte of the frame (for 30 the frame's length), and of
+wrap O is the frame's number, both counted from 0. For 73 it is the byte of
+the file, and O the clause that is broken. For 93 it is the number of frames
+of the file, and O the one that was asked for. For 20 to 25, 11 and 12 it is
+the slice, and O the frame, both counted from 0. For status 10 it is the
+number of frames that the configuration allows, and for 5, 6 and 7 the number
+of faults.
 ";
 
 /// `wrap --help` and `wrap -h`.
@@ -130,10 +154,59 @@ is written.
 `ingest_server --help` lists the statuses.
 ";
 
+/// `check --help` and `check -h`.
+pub const CHECK: &str = "\
+ingest_server check - judge the file of a take, and say what it holds
+
+Usage: ingest_server check --dir FOLDER
+
+Reads take.mxf in the folder, and nothing else. A file that is not there is
+judged as an empty one.
+
+Writes one line to standard output where it is a closed MXF OP1a file:
+  take U frames C bytes B partitions Q
+U is the identifier of the take, in small letters with hyphens, C the number
+of its frames, B the number of bytes of the file, and Q the number of its
+partitions. The frames themselves are not read.
+
+Options:
+  --dir FOLDER    the folder of the take; must be given
+
+Where the file is not a closed OP1a file (status 8, 73), or where reading
+fails (status 6), nothing is written. The fault line names the first clause
+that is broken, and the byte at which it is.
+`ingest_server --help` lists the statuses.
+";
+
+/// `frame --help` and `frame -h`.
+pub const FRAME: &str = "\
+ingest_server frame - write the samples of one picture of a take
+
+Usage: ingest_server frame --dir FOLDER --number N > SAMPLES
+
+Reads take.mxf in the folder, and nothing else. A file that is not there is
+judged as an empty one.
+
+Writes to standard output the samples of the picture that frame N means, each
+in two bytes, the highest first: Y, then Cb, then Cr, each row by row, Cb and
+Cr of half the width.
+
+Options:
+  --dir FOLDER    the folder of the take; must be given
+  --number N      which frame, from 0; must be given
+
+Where the file is not a closed OP1a file (status 8, 73), where it has no frame
+N (93), where the frame is refused (11, 12, 20 to 25, 30 to 41), or where
+reading fails (status 6), nothing is written.
+`ingest_server --help` lists the statuses.
+";
+
 /// Behind the sentence, where the words are no command: the end of its line, and how the program is called.
 pub const USAGE: &str = "
 usage: ingest_server wrap < FEED > FILE.mxf
        ingest_server encode --workers N < FEED > FILE.mxf
+       ingest_server check --dir FOLDER
+       ingest_server frame --dir FOLDER --number N > SAMPLES
        ingest_server --help
 ";
 
@@ -157,6 +230,12 @@ pub(crate) fn help_text(words: &[String]) -> Option<&'static str>
     }
     if first == "encode" && are_help(rest) {
         return Some(ENCODE);
+    }
+    if first == "check" && are_help(rest) {
+        return Some(CHECK);
+    }
+    if first == "frame" && are_help(rest) {
+        return Some(FRAME);
     }
     None
 }

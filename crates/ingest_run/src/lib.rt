@@ -1,17 +1,20 @@
 //! The commands of the ingest server.
 //!
-//! The program makes one call, `run_program`, and its clause is what a user may rely on (`EndsProgram` of
+//! The program makes one call, `run_program`, and its clauses are what a user may rely on (`EndsProgram` of
 //! `specs/Programs.antt`): the text of help or the command's answer, the fault line, a sentence in one line, the exit
-//! code. A command's one call is `plain`: where the source tells its bytes, a run is what `Runs` says of `Says`
-//! (`specs/Runs.antt`) and of `Paces` (`specs/Paces.antt`). `Says` has the bytes that a command writes and its answer for the words and the feed's
-//! bytes, by the closed files of a layout; `Paces` how soon it writes and how far it reads; `Runs` what of it holds
-//! where memory is wanted or a device fails. `HasCauses` (`specs/Causes.antt`) has the cause of each answer, by the
-//! words and the counts of faults.
+//! code. A command's one call is `plain`: `RunsCommand` (`specs/Commands.antt`) has what each command does, by the words.
+//! Over a feed a run is what `Runs` says of `Wraps` or `Encodes` (`specs/Runs.antt`) and of `KeepsPace`
+//! (`specs/Paces.antt`): the bytes that are written and the answer for the feed's bytes, by the closed files of a layout,
+//! how soon they are written and how far is read, and what of it holds where memory is wanted or a device fails. Over a
+//! take it is what take_commands says. `HasCauses` (`specs/Causes.antt`) has the cause of each answer, by the words and
+//! the counts of faults. The disk is only read.
 //! Terms: a run is one call; an answer is its `Status`; a layout is a type that implements `TakeLayout` of take_layout.
-//! Not promised: anything of the bytes where the source doesn't tell them, what the layout's parts say, what the
-//! sentence says, and how long a call takes.
+//! Not promised: anything of the bytes where the source or the disk doesn't tell them, what the layout's parts say, what
+//! the sentence says, and how long a call takes.
 #![tactic(auto)]
 
+#[cfg(test)]
+mod check_tests;
 mod command;
 mod encode;
 #[cfg(test)]
@@ -21,6 +24,8 @@ mod help;
 #[cfg(test)]
 mod message_tests;
 mod next;
+mod options;
+mod paths;
 mod program;
 mod report;
 #[cfg(test)]
@@ -29,5 +34,6 @@ mod words;
 mod wrap;
 
 pub use command::plain;
+pub use paths::{Paths, read_paths};
 pub use program::run_program;
 pub use words::WordsFault;

@@ -7,6 +7,7 @@ use raw_feed::{Feed, MemorySink, MemorySource};
 use std::marker::Brand;
 use std::process::Abort;
 use std::test::Fail;
+use take_disk::MemoryDisk;
 
 /// What a program answers and writes, and its messages.
 type Report = (u8, Vec<u8>, Vec<u8>);
@@ -24,10 +25,12 @@ fn reported<N: Feed, R: AllocGlobal + Abort>(
     let mut feed = MemorySource::<N>::new(bytes, &[]);
     let mut out = MemorySink::new(rt.alloc(), room, &[])?;
     let mut messages = MemorySink::new(rt.alloc(), message_room, &[])?;
-    let code = run_program::<R, N, PictureLayout, _, _, _>(
+    let mut disk = MemoryDisk::new(rt.alloc(), &[], &[], 0, 0, &[], None)?;
+    let code = run_program::<R, N, PictureLayout, _, _, _, _>(
         rt,
         words,
         &mut feed,
+        &mut disk,
         &mut out,
         &mut messages,
     );
@@ -49,9 +52,11 @@ fn a_program_says_its_answer(rt: HostRuntime) -> Result<(), Fail> {
         ingest_server: the words are no command with its options\n\
         usage: ingest_server wrap < FEED > FILE.mxf\n\
         \x20      ingest_server encode --workers N < FEED > FILE.mxf\n\
+        \x20      ingest_server check --dir FOLDER\n\
+        \x20      ingest_server frame --dir FOLDER --number N > SAMPLES\n\
         \x20      ingest_server --help\n";
     // words, room of the output and of the messages; the code, bytes of the output and the first of them, and the messages
-    let cases: [(&[&str], usize, usize, u8, usize, &[u8], &[u8]); 12] = [
+    let cases: [(&[&str], usize, usize, u8, usize, &[u8], &[u8]); 17] = [
         (&["wrap"], 10_000, 400, 3, 7072, &HEADER_KEY, CUT),
         (&["wrap"], 10_000, 20, 3, 7072, &HEADER_KEY, b""),
         (&["wrap"], 3_000, 400, 7, 0, b"", SINK),
@@ -94,6 +99,27 @@ fn a_program_says_its_answer(rt: HostRuntime) -> Result<(), Fail> {
             b"ingest_server encode - ",
             b"",
         ),
+        (
+            &["check", "--help"],
+            10_000,
+            400,
+            0,
+            827,
+            b"ingest_server check - ",
+            b"",
+        ),
+        (
+            &["frame", "-h"],
+            10_000,
+            400,
+            0,
+            769,
+            b"ingest_server frame - ",
+            b"",
+        ),
+        (&["check", "--help", "x"], 10_000, 400, 2, 0, b"", WORDS),
+        (&["check", "--dir"], 10_000, 400, 2, 0, b"", WORDS),
+        (&["frame", "--number", "1"], 10_000, 400, 2, 0, b"", WORDS),
         (&["wrap", "-h"], 10, 400, 7, 0, b"", SINK),
         (&["help", "x"], 10, 400, 7, 0, b"", SINK),
     ];

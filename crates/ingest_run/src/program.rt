@@ -1,12 +1,13 @@
 //! The one call of a program: help, a command, its messages and its exit code.
 
-ghost use Rattle.std.specs.Prelude.{◌≤◌, ℕ, List, Option, length};
+ghost use Rattle.std.specs.Prelude.{◌≤◌, ℕ, List, length};
 ghost use Rattle.rec_bytes.specs.Configuration.{Fields};
-ghost use Rattle.raw_feed.specs.Told.{Told};
+ghost use Rattle.take_disk.specs.Calls.{Stays};
+ghost use Rattle.take_disk.specs.Elapsed.{Elapsed};
+ghost use Rattle.ingest_run.specs.Commands.{around};
 ghost use Rattle.ingest_run.specs.Helps.{help_of};
 ghost use Rattle.ingest_run.specs.Messages.{taken};
-ghost use Rattle.ingest_run.specs.Programs.{AnswersFor, AnswersHelp, AnswersWords, EndsProgram};
-ghost use Rattle.ingest_run.specs.Runs.{outside};
+ghost use Rattle.ingest_run.specs.Programs.{AnswersFor, AnswersWords, EndsProgram, WritesHelp};
 ghost use Rattle.ingest_run.specs.Words.{texts, texts_in};
 ghost use Rattle.ingest_run.specs.inner.Answers.{run_answer};
 
@@ -17,25 +18,38 @@ use crate::report::report;
 use crate::words::WordsFault;
 use raw_feed::{Feed, MAX_UNIT, Sink, Source, put_all};
 use rec_bytes::Failed;
+use take_disk::TakeDisk;
 use take_layout::TakeLayout;
 
 /// Answers a program's words, or why they can't be read: by a text of help, or by the command that they name. It writes
 /// the fault line, a sentence and how the program is called to the messages, and answers the exit code.
-pub fn run_program<R: AllocGlobal, N: Feed, L: TakeLayout, S: Source<N>, W: Sink, M: Sink>(
+pub fn run_program<
+    R: AllocGlobal,
+    N: Feed,
+    L: TakeLayout,
+    S: Source<N>,
+    D: TakeDisk,
+    W: Sink,
+    M: Sink,
+>(
     rt: &R,
     words: &Result<Vec<String>, WordsFault>,
     feed: &mut S,
+    disk: &mut D,
     out: &mut W,
     messages: &mut M,
 ) -> u8
     requires units { (cfg : Fields) (unit : List ℕ) → length unit ≤ MAX_UNIT → L.is_unit cfg unit }
-    ensures { EndsProgram (AnswersWords L.closed L.growing (texts_in words.now)
-        (outside (S.told feed.old) (S.fault_count feed.old) (W.written out.old) (W.fault_count out.old))
-        (outside (S.told feed.new) (S.fault_count feed.new) (W.written out.new) (W.fault_count out.new)))
+    ensures ended { EndsProgram (AnswersWords L.closed L.growing (texts_in words.now)
+        (around S.told S.fault_count D.told D.fault_count W.written W.fault_count feed.old disk.old out.old)
+        (around S.told S.fault_count D.told D.fault_count W.written W.fault_count feed.new disk.new out.new))
         (taken (M.written messages.old) (M.fault_count messages.old)) (taken (M.written messages.new) (M.fault_count messages.new)) result }
+    ensures stays { Stays (D.told disk.old) (D.told disk.new) (D.length_of disk.old) (D.length_of disk.new) }
+    ensures time { Elapsed (D.moment disk.old) (D.moment disk.new) (D.images_since disk.old) (D.images_since disk.new)
+        (D.made disk.old) (D.made disk.new) }
 {
     let ended = match words {
-        Ok(words) => answer::<R, N, L, S, W>(rt, words.as_slice(), feed, out),
+        Ok(words) => answer::<R, N, L, S, D, W>(rt, words.as_slice(), feed, disk, out),
         Err(fault) => Err(RunFault::Words(*fault)),
     };
     report(ended, messages);
@@ -43,27 +57,31 @@ pub fn run_program<R: AllocGlobal, N: Feed, L: TakeLayout, S: Source<N>, W: Sink
 }
 
 /// Answers the words: by a text of help, or by the command that they name.
-fn answer<R: AllocGlobal, N: Feed, L: TakeLayout, S: Source<N>, W: Sink>(
+fn answer<R: AllocGlobal, N: Feed, L: TakeLayout, S: Source<N>, D: TakeDisk, W: Sink>(
     rt: &R,
     words: &[String],
     feed: &mut S,
+    disk: &mut D,
     out: &mut W,
 ) -> Result<(), RunFault>
     requires units { (cfg : Fields) (unit : List ℕ) → length unit ≤ MAX_UNIT → L.is_unit cfg unit }
-    ensures { AnswersFor L.closed L.growing (help_of (texts words.now)) (texts words.now)
-        (outside (S.told feed.old) (S.fault_count feed.old) (W.written out.old) (W.fault_count out.old))
-        (outside (S.told feed.new) (S.fault_count feed.new) (W.written out.new) (W.fault_count out.new)) (run_answer result) }
+    ensures answered { AnswersFor L.closed L.growing (help_of (texts words.now)) (texts words.now)
+        (around S.told S.fault_count D.told D.fault_count W.written W.fault_count feed.old disk.old out.old)
+        (around S.told S.fault_count D.told D.fault_count W.written W.fault_count feed.new disk.new out.new) (run_answer result) }
+    ensures stays { Stays (D.told disk.old) (D.told disk.new) (D.length_of disk.old) (D.length_of disk.new) }
+    ensures time { Elapsed (D.moment disk.old) (D.moment disk.new) (D.images_since disk.old) (D.images_since disk.new)
+        (D.made disk.old) (D.made disk.new) }
 {
     match help_text(words) {
         Some(text) => write_help(text, out),
-        None => run_words::<R, N, L, S, W>(rt, words, feed, out),
+        None => run_words::<R, N, L, S, D, W>(rt, words, feed, disk, out),
     }
 }
 
 /// Writes a text of help.
 fn write_help<W: Sink>(text: &str, out: &mut W) -> Result<(), RunFault>
-    ensures { (told : Option Told) (source : ℕ) → AnswersHelp text.now (outside told source (W.written out.old) (W.fault_count out.old))
-        (outside told source (W.written out.new) (W.fault_count out.new)) (run_answer result) }
+    ensures { WritesHelp text.now (taken (W.written out.old) (W.fault_count out.old))
+        (taken (W.written out.new) (W.fault_count out.new)) (run_answer result) }
 {
     match put_all(out, text.as_bytes()) {
         Ok(()) => Ok(()),

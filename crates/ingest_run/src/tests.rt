@@ -8,6 +8,7 @@ use std::alloc::Global;
 use std::marker::Brand;
 use std::process::Abort;
 use std::test::Fail;
+use take_disk::MemoryDisk;
 use take_layout::files_are_one;
 
 // docs/FORMATS.md, "Feeds" and "Configuration": the magic and the small configuration, written by hand.
@@ -92,16 +93,21 @@ pub(crate) fn ran<N: Feed, R: AllocGlobal + Abort>(
 {
     let mut feed = MemorySource::<N>::new(bytes, source_fails);
     let mut out = MemorySink::new(rt.alloc(), room, sink_fails)?;
-    let faulty: [&[&str]; 5] = [
+    let mut disk = MemoryDisk::new(rt.alloc(), &[], &[], 0, 0, &[], None)?;
+    let faulty: [&[&str]; 7] = [
         &[],
         &["unwrap"],
         &["wrap", "x"],
         &["wrap", "--help"],
         &["encode"],
+        &["check"],
+        &["frame", "--dir", "d"],
     ];
     for texts in faulty {
         let words = words_of(rt.alloc(), texts)?;
-        let status = plain::<R, N, PictureLayout, _, _>(rt, &words, &mut feed, &mut out);
+        let status = plain::<R, N, PictureLayout, _, _, _>(
+            rt, &words, &mut feed, &mut disk, &mut out,
+        );
         let want = Status {
             code: 2,
             number: 0,
@@ -112,7 +118,7 @@ pub(crate) fn ran<N: Feed, R: AllocGlobal + Abort>(
         assert_eq!(rt; out.bytes().len(), 0, "{texts:?}");
     }
     let words = words_of(rt.alloc(), call)?;
-    let status = plain::<R, N, PictureLayout, _, _>(rt, &words, &mut feed, &mut out);
+    let status = plain::<R, N, PictureLayout, _, _, _>(rt, &words, &mut feed, &mut disk, &mut out);
     let answer = (status.code, status.number, status.at);
     Ok(((answer, status.other), out.bytes().to_vec(rt.alloc())?))
 }

@@ -1,13 +1,14 @@
 //! The words of a call: which command they name, and whether it takes them.
 
-ghost use Rattle.std.specs.Prelude.{◌≡◌, ◌≢◌, [], true, IfOk, OnOk};
+ghost use Rattle.std.specs.Prelude.{◌≡◌, ◌≢◌, [], true, Some, IfOk, OnOk, option_map};
 ghost use Rattle.clap.specs.Words.{app_of, fault_of, is_simple_and_free};
 ghost use Rattle.ingest_run.specs.Programs.{fault_answer};
-ghost use Rattle.ingest_run.specs.Words.{command_of, encode, texts, wrap};
+ghost use Rattle.ingest_run.specs.Words.{check, command_of, encode, frame, number_of, texts, wrap};
+ghost use Rattle.ingest_run.specs.inner.Options.{AsksNumber};
 
-use clap::ArgAction;
+use crate::options::{check_command, encode_command, frame_command};
 use clap::error::ErrorKind;
-use rec_bytes::{Memory, Status};
+use rec_bytes::Status;
 use run_parts::{FAULTY_WORDS, MEMORY};
 use std::alloc::Global;
 use thiserror::Error;
@@ -19,6 +20,13 @@ pub(crate) enum Command {
     Wrap,
     /// Write the closed file of the frames of a feed of pictures.
     Encode,
+    /// Say what the file of a take holds.
+    Check,
+    /// Write the samples of a picture of a take.
+    Frame {
+        /// Which one, from 0.
+        number: u32,
+    },
 }
 
 /// Why words give no command.
@@ -53,10 +61,13 @@ pub(crate) fn read_command(alloc: Global, words: &[String]) -> Result<Command, W
     match first.as_str() {
         "wrap" => read_wrap(alloc, words),
         "encode" => read_encode(alloc, words),
+        "check" => read_check(alloc, words),
+        "frame" => read_frame(alloc, words),
         _ => Err(WordsFault::Faulty),
     }
 }
 
+/// Reads the words of `wrap`.
 fn read_wrap(alloc: Global, words: &[String]) -> Result<Command, WordsFault>
     ensures named { IfOk result (λ command. command ≡ Command.Wrap) }
     ensures taken { OnOk result (fault_of wrap (texts words.now) ≡ []) }
@@ -67,6 +78,7 @@ fn read_wrap(alloc: Global, words: &[String]) -> Result<Command, WordsFault>
     Ok(Command::Wrap)
 }
 
+/// Reads the words of `encode`.
 fn read_encode(alloc: Global, words: &[String]) -> Result<Command, WordsFault>
     ensures named { IfOk result (λ command. command ≡ Command.Encode) }
     ensures taken { OnOk result (fault_of encode (texts words.now) ≡ []) }
@@ -79,23 +91,51 @@ fn read_encode(alloc: Global, words: &[String]) -> Result<Command, WordsFault>
     Ok(Command::Encode)
 }
 
-// `encode` and its option.
-fn encode_command<'a>(alloc: Global) -> Result<clap::Command<'a>, Memory>
-    ensures { IfOk result (λ command. app_of command ≡ encode) }
+/// Reads the words of `check`.
+fn read_check(alloc: Global, words: &[String]) -> Result<Command, WordsFault>
+    ensures named { IfOk result (λ command. command ≡ Command.Check) }
+    ensures taken { OnOk result (fault_of check (texts words.now) ≡ []) }
+    ensures refused { result ≡ Err WordsFault.Faulty → fault_of check (texts words.now) ≢ [] }
 {
-    let workers = clap::Arg::new(alloc, "workers")
-        .long("workers")
-        .required(true)
-        .action(ArgAction::Set)
-        .value_parser(clap::value_parser!(u8).range(1..65));
-    let command = clap::Command::new(alloc, "encode").disable_help_flag(true);
-    match command.arg(workers) {
-        Ok(command) => Ok(command),
-        Err(_) => Err(Memory),
+    let Ok(command) = check_command(alloc) else {
+        return Err(WordsFault::Memory);
+    };
+    take_words(command, words)?;
+    Ok(Command::Check)
+}
+
+/// Reads the words of `frame`.
+fn read_frame(alloc: Global, words: &[String]) -> Result<Command, WordsFault>
+    ensures named { IfOk result (λ command. option_map Command.Frame (number_of frame (texts words.now)) ≡ Some command) }
+    ensures taken { OnOk result (fault_of frame (texts words.now) ≡ []) }
+    ensures refused { result ≡ Err WordsFault.Faulty → fault_of frame (texts words.now) ≢ [] }
+{
+    let Ok(command) = frame_command(alloc) else {
+        return Err(WordsFault::Memory);
+    };
+    let number = take_number(command, words)?;
+    Ok(Command::Frame { number })
+}
+
+/// Lets a command judge the words behind its name, and reads the number that they give.
+fn take_number<'a>(command: clap::Command<'a>, words: &'a [String]) -> Result<u32, WordsFault>
+    requires simple { is_simple_and_free (app_of command) ≡ true }
+    requires asks { AsksNumber command }
+    ensures number { IfOk result (λ number. number_of (app_of command.entry) (texts words.entry.now) ≡ Some number) }
+    ensures taken { OnOk result (fault_of (app_of command.entry) (texts words.entry.now) ≡ []) }
+    ensures refused { result ≡ Err WordsFault.Faulty
+        → fault_of (app_of command.entry) (texts words.entry.now) ≢ [] }
+{
+    match command.try_get_matches_from(words) {
+        Ok(matches) => match matches.get_one::<u32>("number") {
+            Some(number) => Ok(number),
+            None => Err(WordsFault::Faulty),
+        },
+        Err(error) => Err(words_fault(error.kind())),
     }
 }
 
-// Lets the command judge the words behind its name.
+/// Lets the command judge the words behind its name.
 fn take_words<'a>(command: clap::Command<'a>, words: &'a [String]) -> Result<(), WordsFault>
     requires { is_simple_and_free (app_of command) ≡ true }
     ensures taken { OnOk result (fault_of (app_of command.entry) (texts words.entry.now) ≡ []) }
@@ -108,6 +148,7 @@ fn take_words<'a>(command: clap::Command<'a>, words: &'a [String]) -> Result<(),
     }
 }
 
+/// Why a parse fails: for want of memory, or by the words.
 fn words_fault(kind: ErrorKind) -> WordsFault
     ensures memory { result ≡ WordsFault.Memory → kind ≡ ErrorKind.OutOfMemory }
     ensures refused { result ≡ WordsFault.Faulty → kind ≢ ErrorKind.OutOfMemory }
@@ -122,13 +163,26 @@ fn words_fault(kind: ErrorKind) -> WordsFault
 mod tests {
     use super::*;
     use crate::tests::words_of;
+    use std::process::Abort;
     use std::test::Fail;
 
     // docs/FORMATS.md, "Words": each answer is worked out by hand. `--` ends the options, and takes nothing.
+    type Row<'a> = (&'a [&'a str], Result<Command, WordsFault>);
+
+    const FAULTY: Result<Command, WordsFault> = Err(WordsFault::Faulty);
+
+    /// Whether each row's words are read as it says.
+    fn each_is_read<R: AllocGlobal + Abort>(rt: &R, rows: &[Row]) -> Result<(), Fail> {
+        for (texts, answer) in rows {
+            let words = words_of(rt.alloc(), texts)?;
+            assert_eq!(rt; &read_command(rt.alloc(), &words), answer, "{texts:?}");
+        }
+        Ok(())
+    }
+
     #[test]
-    fn wrap_alone_and_encode_with_its_workers_are_commands(rt: HostRuntime) -> Result<(), Fail> {
-        const FAULTY: Result<Command, WordsFault> = Err(WordsFault::Faulty);
-        let cases: [(&[&str], Result<Command, WordsFault>); 28] = [
+    fn wrap_takes_no_option(rt: HostRuntime) -> Result<(), Fail> {
+        let rows: [Row; 14] = [
             (&[], FAULTY),
             (&["wrap"], Ok(Command::Wrap)),
             (&["wrap", "--"], Ok(Command::Wrap)),
@@ -142,6 +196,14 @@ mod tests {
             (&["Wrap"], FAULTY),
             (&["help"], FAULTY),
             (&["", "wrap"], FAULTY),
+            (&["wrap", "--dir", "d"], FAULTY),
+        ];
+        each_is_read(&rt, &rows)
+    }
+
+    #[test]
+    fn encode_takes_workers(rt: HostRuntime) -> Result<(), Fail> {
+        let rows: [Row; 16] = [
             (&["encode", "--workers", "1"], Ok(Command::Encode)),
             (&["encode", "--workers", "64"], Ok(Command::Encode)),
             (&["encode", "--workers=3"], Ok(Command::Encode)),
@@ -157,11 +219,77 @@ mod tests {
             (&["encode", "-w", "3"], FAULTY),
             (&["encode", "--help"], FAULTY),
             (&["Encode", "--workers", "3"], FAULTY),
+            (&["encode", "--dir", "d"], FAULTY),
         ];
-        for (texts, answer) in cases {
-            let words = words_of(rt.alloc(), texts)?;
-            assert_eq!(rt; read_command(rt.alloc(), &words), answer, "{texts:?}");
-        }
-        Ok(())
+        each_is_read(&rt, &rows)
+    }
+
+    #[test]
+    fn check_takes_a_folder(rt: HostRuntime) -> Result<(), Fail> {
+        let rows: [Row; 13] = [
+            (&["check", "--dir", "d"], Ok(Command::Check)),
+            (&["check", "--dir=d"], Ok(Command::Check)),
+            (&["check", "--dir", ""], Ok(Command::Check)),
+            (&["check"], FAULTY),
+            (&["check", "--dir"], FAULTY),
+            (&["check", "d"], FAULTY),
+            (&["check", "--dir", "d", "x"], FAULTY),
+            (&["check", "--dir", "d", "--dir", "d"], FAULTY),
+            (&["check", "--dir", "d", "--number", "0"], FAULTY),
+            (&["check", "--number", "0"], FAULTY),
+            (&["check", "--workers", "3"], FAULTY),
+            (&["check", "--help"], FAULTY),
+            (&["Check", "--dir", "d"], FAULTY),
+        ];
+        each_is_read(&rt, &rows)
+    }
+
+    #[test]
+    fn frame_takes_a_folder_and_a_number(rt: HostRuntime) -> Result<(), Fail> {
+        let rows: [Row; 8] = [
+            (
+                &["frame", "--dir", "d", "--number", "0"],
+                Ok(Command::Frame { number: 0 }),
+            ),
+            (
+                &["frame", "--number", "17", "--dir", "d"],
+                Ok(Command::Frame { number: 17 }),
+            ),
+            (
+                &["frame", "--dir=d", "--number=4294967295"],
+                Ok(Command::Frame {
+                    number: 4_294_967_295,
+                }),
+            ),
+            (
+                &["frame", "--dir", "d", "--number", "007"],
+                Ok(Command::Frame { number: 7 }),
+            ),
+            (
+                &["frame", "--dir", "d", "--number", "+8"],
+                Ok(Command::Frame { number: 8 }),
+            ),
+            (&["frame", "--dir", "d"], FAULTY),
+            (&["frame", "--number", "0"], FAULTY),
+            (&["frame", "--dir", "d", "--number"], FAULTY),
+        ];
+        each_is_read(&rt, &rows)
+    }
+
+    #[test]
+    fn frames_with_other_words_are_faulty(rt: HostRuntime) -> Result<(), Fail> {
+        let rows: [Row; 7] = [
+            (&["frame", "--dir", "d", "--number", ""], FAULTY),
+            (&["frame", "--dir", "d", "--number", "x"], FAULTY),
+            (&["frame", "--dir", "d", "--number", "-1"], FAULTY),
+            (&["frame", "--dir", "d", "--number", "4294967296"], FAULTY),
+            (&["frame", "--dir", "d", "--number", "1", "x"], FAULTY),
+            (
+                &["frame", "--dir", "d", "--number", "1", "--number", "1"],
+                FAULTY,
+            ),
+            (&["frame", "--dir", "d", "1"], FAULTY),
+        ];
+        each_is_read(&rt, &rows)
     }
 }

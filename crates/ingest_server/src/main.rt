@@ -1,30 +1,65 @@
-//! The ingest server: a thin main over standard input and standard output.
+//! The ingest server: a thin main over standard input, standard output and the folder of a take.
 //!
-//! It makes the real source and sinks, makes the one call `run_program` of ingest_run, and ends with the code that this
-//! answers. What the call promises is said there; here nothing is proved but that the program is safe and ends as its call
-//! answers.
+//! It makes the real source and sinks, opens the folder that the words name, makes the one call `run_program` of ingest_run,
+//! and ends with the code that this answers. What the call promises is said there; here nothing is proved but that the
+//! program is safe and ends as its call answers.
 #![tactic(auto)]
 
-use ingest_run::{WordsFault, run_program};
+use ingest_run::{WordsFault, read_paths, run_program};
 use mxf_take_file::PictureLayout;
 use raw_feed::{StreamSink, StreamSource};
+use rec_bytes::Memory;
 use std::env;
+use std::fs::File;
 use std::io::ErrorKind;
 use std::marker::Brand;
 use std::process::ExitCode;
+use take_disk::{Access, FileDisk};
 
 fn main(rt: HostRuntime) -> ExitCode {
     let words = read_words(&rt);
+    ExitCode::from(match open_disk(&rt, &words) {
+        Ok(disk) => run(&rt, &words, disk),
+        Err(Memory) => run(&rt, &Err(WordsFault::Memory), FileDisk::new(None, None)),
+    })
+}
+
+/// Runs the program over standard input, a disk and standard output.
+fn run(rt: &HostRuntime, words: &Result<Vec<String>, WordsFault>, mut disk: FileDisk<File>) -> u8 {
     let mut feed = StreamSource::<Brand, _>::new(rt.stdin());
     let mut out = StreamSink::new(rt.stdout());
     let mut messages = StreamSink::new(rt.stderr());
-    ExitCode::from(run_program::<HostRuntime, Brand, PictureLayout, _, _, _>(
-        &rt,
-        &words,
+    run_program::<HostRuntime, Brand, PictureLayout, _, _, _, _>(
+        rt,
+        words,
         &mut feed,
+        &mut disk,
         &mut out,
         &mut messages,
-    ))
+    )
+}
+
+/// The disk of the take that the words name. Where no command looks at a take it has no files, and no command calls it.
+fn open_disk(
+    rt: &HostRuntime,
+    words: &Result<Vec<String>, WordsFault>,
+) -> Result<FileDisk<File>, Memory> {
+    match take_folder(words) {
+        Some(folder) => FileDisk::open(rt, rt.alloc(), folder, Access::Look),
+        None => Ok(FileDisk::new(None, None)),
+    }
+}
+
+/// The folder of a take, where the words begin with the name of a command that looks at one.
+fn take_folder(words: &Result<Vec<String>, WordsFault>) -> Option<&str> {
+    let Ok(words) = words else {
+        return None;
+    };
+    let first = words.first()?.as_str();
+    if first != "check" && first != "frame" {
+        return None;
+    }
+    Some(read_paths(words.as_slice())?.dir)
 }
 
 /// The words behind the program's name. One that isn't text is faulty.

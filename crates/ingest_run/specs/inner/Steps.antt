@@ -1,5 +1,5 @@
 -- The steps of the commands that read a feed (own). Private functions alone cite these.
-use Rattle.std.specs.Prelude.{◌≡◌, ◌≢◌, ◌⊎◌, ◌+◌, ◌<◌, ◌≤◌, ℕ, List, [], ◌∷◌, ◌++◌, Option, None, Result, Ok, Err}
+use Rattle.std.specs.Prelude.{◌≡◌, ◌≢◌, ◌+◌, ◌<◌, ◌≤◌, ℕ, List, [], ◌∷◌, ◌++◌, Option, None, Result, Ok, Err}
 use Rattle.rec_bytes.specs.Faults.{Rose}
 use Rattle.rec_bytes.specs.Ranges.{IsInRange}
 use Rattle.rec_bytes.specs.declared.status.Status.{Status}
@@ -12,8 +12,8 @@ use Rattle.raw_feed.specs.HasRead.{HasRead, EndsFeed}
 use Rattle.raw_feed.specs.Reading.{Reading}
 use Rattle.run_parts.specs.declared.end.FeedEnd.{FeedEnd}
 use Rattle.run_parts.specs.declared.end.FeedEnd.TheVariants.{Clean as EndClean, Full as EndFull, Broken as EndBroken}
-use Rattle.run_parts.specs.Causes.{Counts, IsFeedAnswer, HasDeviceCauses}
-use Rattle.run_parts.specs.Statuses.{answer, ending_answer, feed_end_answer, memory_answer, sink_answer}
+use Rattle.run_parts.specs.Causes.{IsFeedAnswer}
+use Rattle.run_parts.specs.Statuses.{answer, ending_answer, feed_end_answer, memory_answer}
 use Rattle.ingest_run.specs.declared.next.Next.{Next}
 use Rattle.ingest_run.specs.declared.next.Next.TheVariants.{Item, End}
 
@@ -61,8 +61,3 @@ pub record HasEndCause (before now : ℕ) (status : Status) : Type 0 where
   pub source : status.code ≡ 5 → (status ≡ answer 5 113 now 0) × Rose before now
   pub source_kept : status.code ≢ 5 → now ≡ before
   pub no_sink : status.code ≢ 7
-
--- the causes of an answer of `encode`, which is one for how a feed ends or for its sink, and never one for a unit
-pub record HasPictureCauses (before now : Counts) (status : Status) : Type 0 where
-  pub answered : IsFeedAnswer status ⊎ (status ≡ sink_answer now.sink)
-  pub devices : HasDeviceCauses before now status

@@ -1,38 +1,57 @@
-use Rattle.std.proofs.Common.{ap, Err}
-use Rattle.ingest_run.specs.declared.words.Command.TheVariants.{Wrap, Encode}
-use Rattle.ingest_run.proofs.CommandLemmas.{runs_command, runs_fault, causes_wrap, causes_encode, causes_fault}
+use Rattle.std.proofs.Common.{ap, refl, Err}
+use Rattle.take_disk.specs.laws.TimeLaws.{elapsed_none}
+use Rattle.ingest_run.specs.declared.words.Command.TheVariants.{Wrap, Encode, Check, Frame}
+use Rattle.ingest_run.proofs.CommandLemmas.{runs_as, runs_fault, causes_wrap, causes_encode, causes_check, causes_frame, causes_fault}
 use Rattle.ingest_run.proofs.command.run_words.Goals as goal
 
 pub returns-in-Ok-Wrap-clause-ran : goal.returns-in-Ok-Wrap-clause-ran
 returns-in-Ok-Wrap-clause-ran g c =
     let L = g.L.TakeLayout in
-    runs_command L.closed L.growing _ _ _ _ Wrap (rw c.in-Ok-Wrap.field-0-is at c.in-Ok-Wrap.ensures.named) c.wrap.ensures.ran
+    runs_as L.closed L.growing _ _ _ _ Wrap (rw c.in-Ok-Wrap.field-0-is at c.in-Ok-Wrap.ensures.named) (refl, c.wrap.ensures.ran)
+
+pub returns-in-Ok-Wrap-clause-time : goal.returns-in-Ok-Wrap-clause-time
+returns-in-Ok-Wrap-clause-time g c = elapsed_none _ _ _
 
 pub returns-in-Ok-Wrap-clause-cause : goal.returns-in-Ok-Wrap-clause-cause
 returns-in-Ok-Wrap-clause-cause g c = causes_wrap _ _ _ _ (rw c.in-Ok-Wrap.field-0-is at c.in-Ok-Wrap.ensures.named) c.wrap.ensures.cause
 
-pub returns-in-Ok-Wrap-clause-idle : goal.returns-in-Ok-Wrap-clause-idle
-returns-in-Ok-Wrap-clause-idle g c none =
-    let named = c.in-Ok-Wrap.ensures.named in
-    absurd (cc)
-
 pub returns-in-Ok-Encode-clause-ran : goal.returns-in-Ok-Encode-clause-ran
 returns-in-Ok-Encode-clause-ran g c =
     let L = g.L.TakeLayout in
-    runs_command L.closed L.growing _ _ _ _ Encode (rw c.in-Ok-Encode.field-0-is at c.in-Ok-Encode.ensures.named) c.encode.ensures.ran
+    runs_as L.closed L.growing _ _ _ _ Encode (rw c.in-Ok-Encode.field-0-is at c.in-Ok-Encode.ensures.named) (refl, c.encode.ensures.ran)
+
+pub returns-in-Ok-Encode-clause-time : goal.returns-in-Ok-Encode-clause-time
+returns-in-Ok-Encode-clause-time g c = elapsed_none _ _ _
 
 pub returns-in-Ok-Encode-clause-cause : goal.returns-in-Ok-Encode-clause-cause
 returns-in-Ok-Encode-clause-cause g c = causes_encode _ _ _ _ (rw c.in-Ok-Encode.field-0-is at c.in-Ok-Encode.ensures.named) c.encode.ensures.cause
 
-pub returns-in-Ok-Encode-clause-idle : goal.returns-in-Ok-Encode-clause-idle
-returns-in-Ok-Encode-clause-idle g c none =
-    let named = c.in-Ok-Encode.ensures.named in
-    absurd (cc)
+pub returns-in-Ok-Check-clause-ran : goal.returns-in-Ok-Check-clause-ran
+returns-in-Ok-Check-clause-ran g c =
+    let L = g.L.TakeLayout in
+    runs_as L.closed L.growing _ _ _ _ Check (rw c.in-Ok-Check.field-0-is at c.in-Ok-Check.ensures.named) (refl, rw c.take_end.ensures c.check.ensures.ran)
+
+pub returns-in-Ok-Check-clause-cause : goal.returns-in-Ok-Check-clause-cause
+returns-in-Ok-Check-clause-cause g c =
+    causes_check _ _ _ _ (rw c.in-Ok-Check.field-0-is at c.in-Ok-Check.ensures.named) (rw c.take_end.ensures c.check.ensures.cause)
+
+pub returns-in-Ok-Frame-clause-ran : goal.returns-in-Ok-Frame-clause-ran
+returns-in-Ok-Frame-clause-ran g c =
+    let L = g.L.TakeLayout in
+    runs_as L.closed L.growing _ _ _ _ (Frame c.in-Ok-Frame.number) (rw c.in-Ok-Frame.field-0-is at c.in-Ok-Frame.ensures.named)
+    (refl, rw c.take_end-in-Ok-Frame.ensures (rw c.from.ensures at c.frame.ensures.ran))
+
+pub returns-in-Ok-Frame-clause-cause : goal.returns-in-Ok-Frame-clause-cause
+returns-in-Ok-Frame-clause-cause g c =
+    causes_frame _ _ _ _ c.in-Ok-Frame.number (rw c.in-Ok-Frame.field-0-is at c.in-Ok-Frame.ensures.named) (rw c.take_end-in-Ok-Frame.ensures c.frame.ensures.cause)
 
 pub returns-in-Err-clause-ran : goal.returns-in-Err-clause-ran
 returns-in-Err-clause-ran g c =
     let L = g.L.TakeLayout in
     runs_fault L.closed L.growing _ _ c.in-Err.fault (record { units = c.feeds_are_one.ensures.units; configuration = c.feeds_are_one.ensures.configuration }) (λ e. c.in-Err.ensures.refused (ap Err e))
+
+pub returns-in-Err-clause-time : goal.returns-in-Err-clause-time
+returns-in-Err-clause-time g c = elapsed_none _ _ _
 
 pub returns-in-Err-clause-cause : goal.returns-in-Err-clause-cause
 returns-in-Err-clause-cause g c = causes_fault _ _ c.in-Err.fault (λ e. c.in-Err.ensures.refused (ap Err e))

@@ -1,13 +1,10 @@
 use Rattle.std.proofs.Common.{◌∙◌, sym, ap}
 use Rattle.std.specs.Option.{option_copied}
-use Rattle.ingest_run.specs.Words.{encode, wrap}
-use Rattle.ingest_run.proofs.WordsLemmas.{is_call_none, is_call_other, is_call_refused, names_differ, none_taken, wrap_taken, encode_taken}
+use Rattle.ingest_run.proofs.WordsLemmas.{none_given, none_named, wrap_refused, encode_refused, check_refused, frame_refused, wrap_taken, encode_taken, check_taken, frame_taken}
 use Rattle.ingest_run.proofs.words.read_command.Goals as goal
 
 pub returns-in_default-clause-refused : goal.returns-in_default-clause-refused
-returns-in_default-clause-refused c _ =
-    let none = sym c.first.ensures.value ∙ ap option_copied c.in_default.is in
-    none_taken c.args.words.now (is_call_none wrap c.args.words.now none) (is_call_none encode c.args.words.now none)
+returns-in_default-clause-refused c _ = none_given c.args.words.now (sym c.first.ensures.value ∙ ap option_copied c.in_default.is)
 
 pub returns-in-wrap-clause-named : goal.returns-in-wrap-clause-named
 returns-in-wrap-clause-named c =
@@ -19,8 +16,7 @@ pub returns-in-wrap-clause-refused : goal.returns-in-wrap-clause-refused
 returns-in-wrap-clause-refused c faulty =
     let first = sym c.first.ensures.value ∙ ap option_copied c.in-Some.is in
     let named = sym c.as_str.ensures.value ∙ c.in-wrap.is in
-    none_taken c.args.words.now (is_call_refused wrap c.args.words.now (c.read_wrap.ensures.refused faulty))
-    (is_call_other encode c.args.words.now c.in-Some.first.now first (λ e. names_differ (sym named ∙ e)))
+    wrap_refused c.args.words.now c.in-Some.first.now first named (c.read_wrap.ensures.refused faulty)
 
 pub returns-in-encode-clause-named : goal.returns-in-encode-clause-named
 returns-in-encode-clause-named c =
@@ -32,12 +28,37 @@ pub returns-in-encode-clause-refused : goal.returns-in-encode-clause-refused
 returns-in-encode-clause-refused c faulty =
     let first = sym c.first.ensures.value ∙ ap option_copied c.in-Some.is in
     let named = sym c.as_str.ensures.value ∙ c.in-encode.is in
-    none_taken c.args.words.now (is_call_other wrap c.args.words.now c.in-Some.first.now first (λ e. names_differ (sym e ∙ named)))
-    (is_call_refused encode c.args.words.now (c.read_encode.ensures.refused faulty))
+    encode_refused c.args.words.now c.in-Some.first.now first named (c.read_encode.ensures.refused faulty)
+
+pub returns-in-check-clause-named : goal.returns-in-check-clause-named
+returns-in-check-clause-named c =
+    let first = sym c.first.ensures.value ∙ ap option_copied c.in-Some.is in
+    let named = sym c.as_str.ensures.value ∙ c.in-check.is in
+    check_taken c.args.words.now c.in-Some.first.now c.read_check.result first named c.read_check.ensures.named c.read_check.ensures.taken
+
+pub returns-in-check-clause-refused : goal.returns-in-check-clause-refused
+returns-in-check-clause-refused c faulty =
+    let first = sym c.first.ensures.value ∙ ap option_copied c.in-Some.is in
+    let named = sym c.as_str.ensures.value ∙ c.in-check.is in
+    check_refused c.args.words.now c.in-Some.first.now first named (c.read_check.ensures.refused faulty)
+
+pub returns-in-frame-clause-named : goal.returns-in-frame-clause-named
+returns-in-frame-clause-named c =
+    let first = sym c.first.ensures.value ∙ ap option_copied c.in-Some.is in
+    let named = sym c.as_str.ensures.value ∙ c.in-frame.is in
+    frame_taken c.args.words.now c.in-Some.first.now c.read_frame.result first named c.read_frame.ensures.named c.read_frame.ensures.taken
+
+pub returns-in-frame-clause-refused : goal.returns-in-frame-clause-refused
+returns-in-frame-clause-refused c faulty =
+    let first = sym c.first.ensures.value ∙ ap option_copied c.in-Some.is in
+    let named = sym c.as_str.ensures.value ∙ c.in-frame.is in
+    frame_refused c.args.words.now c.in-Some.first.now first named (c.read_frame.ensures.refused faulty)
 
 pub returns-in_default-as_str-clause-refused : goal.returns-in_default-as_str-clause-refused
 returns-in_default-as_str-clause-refused c _ =
     let first = sym c.first.ensures.value ∙ ap option_copied c.in-Some.is in
-    none_taken c.args.words.now
-    (is_call_other wrap c.args.words.now c.in-Some.first.now first (λ e. c.in_default-as_str.not-wrap (c.as_str.ensures.value ∙ e)))
-    (is_call_other encode c.args.words.now c.in-Some.first.now first (λ e. c.in_default-as_str.not-encode (c.as_str.ensures.value ∙ e)))
+    none_named c.args.words.now c.in-Some.first.now first
+    (λ e. c.in_default-as_str.not-wrap (c.as_str.ensures.value ∙ e))
+    (λ e. c.in_default-as_str.not-encode (c.as_str.ensures.value ∙ e))
+    (λ e. c.in_default-as_str.not-check (c.as_str.ensures.value ∙ e))
+    (λ e. c.in_default-as_str.not-frame (c.as_str.ensures.value ∙ e))

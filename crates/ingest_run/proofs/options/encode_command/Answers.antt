@@ -4,7 +4,7 @@ use Rattle.clap.specs.Words.{Rule, app_of, rule_of, new_rule, with_rule, new_app
 use Rattle.clap.specs.declared.builder.value_parser.ValueParser.TheVariants as vp
 use Rattle.clap.specs.declared.builder.ArgAction.TheVariants.{Set}
 use Rattle.ingest_run.specs.Words.{workers, without_help}
-use Rattle.ingest_run.proofs.words.encode_command.Goals as goal
+use Rattle.ingest_run.proofs.options.encode_command.Goals as goal
 
 -- the option before its values were told
 abbrev plain : Rule
