@@ -9,7 +9,7 @@ use Rattle.take_core.specs.declared.entry.Entry.{Entry}
 use Rattle.take_core.specs.declared.event.Event.{Event}
 use Rattle.take_core.specs.declared.snapshot.Phase.TheVariants as phase
 use Rattle.take_core.specs.inner.Keeping.{KeepsCore}
-use Rattle.take_core.specs.inner.Recorded.{Recorded}
+use Rattle.take_core.specs.Recorded.{Recorded}
 use Rattle.take_core.proofs.HistoryLemmas.{published-append, growing-len, near-now}
 use Rattle.take_core.proofs.SoundLemmas.{sound-does}
 

@@ -13,7 +13,7 @@ use Rattle.take_core.specs.declared.snapshot.Phase.TheVariants as phase
 use Rattle.take_core.specs.declared.snapshot.Snapshot.{Snapshot}
 use Rattle.take_core.specs.inner.Flags.{AllSet, Cleared}
 use Rattle.take_core.specs.inner.Keeping.{KeepsCore}
-use Rattle.take_core.specs.inner.Recorded.{Recorded}
+use Rattle.take_core.specs.Recorded.{Recorded}
 use Rattle.take_core.proofs.FlagLemmas.{set-shows, forget-shows, whole-shows}
 use Rattle.take_core.proofs.HistoryLemmas.{published-append}
 use Rattle.take_core.proofs.SoundLemmas.{sound-does}

@@ -3,7 +3,7 @@ use Rattle.std.proofs.Common.{◌≡◌, ℕ, ◌+◌, List, [], ◌∷◌, ◌+
 use Rattle.take_core.specs.History.{published_in, acked_in, phase_in, acked_by, ended_by}
 use Rattle.take_core.specs.declared.entry.Entry.{Entry}
 use Rattle.take_core.specs.declared.snapshot.Phase.{Phase}
-use Rattle.take_core.specs.inner.Recorded.{Shows}
+use Rattle.take_core.specs.inner.Shows.{Shows}
 use Rattle.take_core.proofs.HistoryLemmas.{published-append, acked-push, phase-push}
 
 -- one entry more, and the numbers that go with it

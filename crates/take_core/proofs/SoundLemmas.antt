@@ -6,7 +6,7 @@ use Rattle.take_core.specs.History.{published_in, acked_in}
 use Rattle.take_core.specs.Runs.{Turn, Runs}
 use Rattle.take_core.specs.States.{CoreState, fresh, published}
 use Rattle.take_core.specs.Steps.{Steps, Does, TakesSlice, Publishes, Begins, Notes, Opens, Acknowledges, WritesTail, Finishes, Stops}
-use Rattle.take_core.specs.inner.Sound.{IsSound, mark_in}
+use Rattle.take_core.specs.Sound.{IsSound, mark_in}
 use Rattle.take_core.specs.declared.entry.Entry.TheVariants as entry
 use Rattle.take_core.specs.declared.event.Answer.{Answer}
 use Rattle.take_core.specs.declared.event.Event.{Event}

@@ -6,7 +6,9 @@ pub mod History
 pub mod Kept
 pub mod Marks
 pub mod Phases
+pub mod Recorded
 pub mod Runs
+pub mod Sound
 pub mod States
 pub mod Steps
 pub mod inner

@@ -1,4 +1,3 @@
 pub mod Flags
 pub mod Keeping
-pub mod Recorded
-pub mod Sound
+pub mod Shows

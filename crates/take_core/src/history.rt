@@ -20,7 +20,8 @@ pub struct History {
 
 impl Model for History {
     ghost use Rattle.std.specs.Vec.{vec_capacity};
-    ghost use Rattle.take_core.specs.inner.Recorded.{Recorded, Shows};
+    ghost use Rattle.take_core.specs.Recorded.{Recorded};
+    ghost use Rattle.take_core.specs.inner.Shows.{Shows};
 
     ghost Value = { Recorded };
 
@@ -54,6 +55,13 @@ impl History {
         }
     }
 
+    /// All entries, in order.
+    pub fn entries(&self) -> &[Entry]
+        ensures { result.now ≡ self.now.entries }
+    {
+        self.entries.as_slice()
+    }
+
     /// Adds an entry, without taking memory.
     pub fn add(&mut self, entry: Entry)
         requires { length self.old.entries < self.old.room }
@@ -66,5 +74,12 @@ impl History {
             Entry::Stopped { .. } => self.phase = Phase::Stopped,
         }
         self.entries.push_reserved(entry);
+    }
+    /// All entries, alone.
+    pub fn into_entries(self) -> Vec<Entry>
+        ensures { result.items ≡ self.entries }
+    {
+        let History { entries, .. } = self;
+        entries
     }
 }

@@ -4,7 +4,8 @@ ghost use Rattle.std.specs.Prelude.{◌≡◌, ◌<◌, ◌≤◌, ℕ, List, �
 ghost use Rattle.rec_bytes.specs.Configuration.{Fields};
 ghost use Rattle.take_core.specs.History.{IsLegal, after, latest};
 ghost use Rattle.take_core.specs.Runs.{Turn, IsRun, WasTaken, look};
-ghost use Rattle.take_core.specs.States.{CoreState, published};
+ghost use Rattle.take_core.specs.Sound.{IsSound};
+ghost use Rattle.take_core.specs.States.{CoreState, fresh, published};
 ghost use Rattle.take_core.specs.Steps.{Steps};
 ghost use Rattle.take_core.specs.declared.event.Answer.{Answer};
 ghost use Rattle.take_core.specs.declared.event.Answer.TheVariants.{Done, Seen};
@@ -24,6 +25,12 @@ pub fn steps_are_one()
 pub fn runs_are_legal()
     ensures { (cfg : Fields) (turns : List Turn) (last : CoreState) → IsRun cfg turns last
         → IsLegal cfg.lag cfg.max_frames last.history }
+{}
+
+/// A take begins in a sound state, and every event leads from a sound state to one.
+pub fn states_stay_sound()
+    ensures begun { (cfg : Fields) → IsSound (fresh cfg) }
+    ensures kept { (old new : CoreState) (event : Event) (answer : Answer) → Steps old event answer new → IsSound old → IsSound new }
 {}
 
 /// Every slice of a frame was taken before the frame was published.

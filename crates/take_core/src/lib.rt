@@ -3,8 +3,9 @@
 //!
 //! The crates above rest on one relation, `Steps` of `specs/Steps.antt`: which answer an event has in a state, and which
 //! state it leads to. `Core::step` is this relation. `steps_are_one`, `runs_are_legal`, `published_slices_were_in` and
-//! `looks_see_the_history` say what holds of every run, whatever events come. Of a take's file they rest on the laws of
-//! `TakeLayout` and on `GrowingFile`.
+//! `looks_see_the_history` say what holds of every run, whatever events come, and `states_stay_sound` what each event keeps
+//! (`specs/Sound.antt`). Who keeps a take's entries without its slices has `History`. Of a take's file they rest on the laws
+//! of `TakeLayout` and on `GrowingFile`.
 //!
 //! Terms: an *entry* is what is known to have happened, and the *history* is the entries in order; a *step* counts
 //! entries; a *snapshot* is what the first entries show; a frame is *published* once it may be read, and *acked* once it
@@ -31,7 +32,11 @@ pub use commit_phase::{CommitPhase, CorePhase};
 pub use core_steps::Core;
 pub use entry::Entry;
 pub use event::{Answer, Event};
-pub use laws::{looks_see_the_history, published_slices_were_in, runs_are_legal, steps_are_one};
+pub use history::History;
+pub use laws::{
+    looks_see_the_history, published_slices_were_in, runs_are_legal, states_stay_sound,
+    steps_are_one,
+};
 pub use mark::{CoreMark, Mark};
 pub use numbers::{
     DOUBLE, ENDED, FLIGHT, LAGGING, MAX_UNIT, NOT_DUE, STOPPED, STRANGER, TAKE_FULL,

@@ -1,4 +1,4 @@
-use crate::{Answer, Core, Event, Phase, Snapshot};
+use crate::{Answer, Core, Entry, Event, History, Phase, Snapshot};
 use rec_bytes::read_config;
 use std::process::Abort;
 use std::test::Fail;
@@ -167,5 +167,24 @@ fn a_commit_phase_stands_for_what_it_will_be(rt: HostRuntime) -> Result<(), Fail
         crate::CommitPhase::NoteOut(mark).in_core(),
         crate::CorePhase::Noted(kept)
     );
+    Ok(())
+}
+
+#[test]
+fn a_history_tells_its_entries(rt: HostRuntime) -> Result<(), Fail> {
+    let mut history = History::new(rt.alloc(), 2).expect(&rt, "memory");
+    history.add(Entry::Published { len: 50 });
+    history.add(Entry::Stopped { faults: 3 });
+    let seen = Snapshot {
+        step: 2,
+        published: 1,
+        acked: 0,
+        phase: Phase::Stopped,
+    };
+    assert_eq!(rt; history.latest(), seen);
+    let entries = [Entry::Published { len: 50 }, Entry::Stopped { faults: 3 }];
+    assert_eq!(rt; history.entries(), entries.as_slice());
+    assert_eq!(rt; history.into_entries().as_slice(), entries.as_slice());
+    crate::states_stay_sound();
     Ok(())
 }
