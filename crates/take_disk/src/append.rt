@@ -1,3 +1,5 @@
+//! Writes into vectors that have room for them.
+
 ghost use Rattle.std.specs.Prelude.{◌≡◌, ◌≤◌, ◌+◌, ◌++◌, [], ◌∷◌, length, vec_len, vec_capacity, max};
 ghost use Rattle.rec_bytes.specs.Places.{with_bytes};
 

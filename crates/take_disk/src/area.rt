@@ -1,3 +1,5 @@
+//! The areas of a take.
+
 /// One of the two areas of a take on a disk.
 #[derive(Clone, Copy, Debug, PartialEq, Eq)]
 pub enum Area {

@@ -1,3 +1,5 @@
+//! The file of an area.
+
 ghost use Rattle.std.specs.Prelude.{◌≡◌, ◌≤◌, ◌+◌, max, length, OnOk};
 
 use rec_bytes::Failed;

@@ -1,3 +1,5 @@
+//! What a crash leaves of an area in memory.
+
 ghost use Rattle.std.specs.Prelude.{◌≡◌, ◌<◌, ℕ, nat_lt, if◌then◌else◌, length, take, drop, get_or, IfOk, OnOk};
 ghost use Rattle.rec_bytes.specs.Places.{with_bytes};
 ghost use Rattle.take_disk.specs.Logs.{kept_at, kept_now};

@@ -1,3 +1,5 @@
+//! The record of an area in memory, one deed more.
+
 ghost use Rattle.std.specs.Prelude.{◌≡◌, ◌≤◌, ◌<◌, ◌+◌, length, vec_len};
 ghost use Rattle.std.specs.List.{list_any};
 ghost use Rattle.take_disk.specs.declared.entry.Deed.TheVariants.{Cut, Fail};

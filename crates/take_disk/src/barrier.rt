@@ -1,3 +1,5 @@
+//! What keeps an area while the disk goes on.
+
 ghost use Rattle.std.specs.Prelude.{◌≡◌, ℕ, IfOk};
 ghost use Rattle.rec_bytes.specs.Faults.{HasCause};
 

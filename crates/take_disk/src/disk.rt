@@ -1,3 +1,5 @@
+//! The disk of a take, what it tells, and what its calls promise.
+
 ghost use Rattle.std.specs.Prelude.{◌≡◌, ◌≤◌, ◌+◌, ℕ, Bool, true, Option, Some, None, length, take, drop, OnOk, OnErr};
 ghost use Rattle.rec_bytes.specs.Faults.{HasCause};
 ghost use Rattle.take_disk.specs.declared.area.Area.{Area};

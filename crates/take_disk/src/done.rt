@@ -1,3 +1,5 @@
+//! Runs of barriers that succeeded.
+
 ghost use Rattle.std.specs.Prelude.{◌≡◌, ◌↔◌, Option, Some, None, IfOk, IfErr, IsOk, IsTrue};
 ghost use Rattle.std.specs.Option.{option_map};
 ghost use Rattle.take_disk.specs.Tickets.{Joins, first_of, second_of};

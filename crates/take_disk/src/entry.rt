@@ -1,3 +1,5 @@
+//! What is recorded of an area in memory.
+
 /// What was done to an area.
 #[derive(Clone, Copy, Debug, PartialEq, Eq)]
 pub enum Deed {

@@ -1,3 +1,5 @@
+//! The count of faults.
+
 ghost use Rattle.std.specs.Prelude.{◌≡◌};
 ghost use Rattle.rec_bytes.specs.Faults.{HasCause};
 

@@ -1,3 +1,5 @@
+//! A barrier over two files.
+
 ghost use Rattle.std.specs.Prelude.{◌≡◌};
 
 use crate::area::Area;

@@ -1,3 +1,5 @@
+//! A disk of two files.
+
 ghost use Rattle.std.specs.Prelude.{◌≡◌, None, true, refl, IfOk};
 ghost use Rattle.take_disk.specs.inner.Lengths.{lengths_of};
 ghost use Rattle.take_disk.specs.laws.Untold.{untold};

@@ -1,3 +1,5 @@
+//! Disks and barriers over files.
+
 ghost use Rattle.std.specs.Prelude.{◌≡◌, ◌≤◌};
 
 use crate::area::Area;

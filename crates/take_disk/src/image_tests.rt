@@ -1,3 +1,5 @@
+//! Images of a disk in memory.
+
 use crate::area::Area;
 use crate::memory_barrier::MemoryBarrier;
 use crate::memory_disk::MemoryDisk;

@@ -1,3 +1,5 @@
+//! An area of a disk in memory.
+
 ghost use Rattle.std.specs.Prelude.{◌≡◌, ◌≤◌, ◌+◌, ◌*◌, ◌^◌, [], true, length, vec_len, vec_capacity, IfOk};
 ghost use Rattle.take_disk.specs.Logs.{replay, fresh};
 ghost use Rattle.take_disk.specs.inner.Counts.{IsSettledSo, changes, unsettled, pieces_end, is_sound};

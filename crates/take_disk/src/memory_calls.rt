@@ -1,3 +1,5 @@
+//! The calls of a disk in memory.
+
 ghost use Rattle.std.specs.Prelude.{◌≡◌, ◌≤◌, ◌<◌, ◌+◌, ◌||◌, Some, true, refl, length, take, drop, OnOk, OnErr};
 ghost use Rattle.std.specs.Result.{is_err};
 ghost use Rattle.rec_bytes.specs.Faults.{HasCause};

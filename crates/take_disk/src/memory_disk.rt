@@ -1,3 +1,5 @@
+//! A disk in memory.
+
 ghost use Rattle.std.specs.Prelude.{◌≡◌, ◌≤◌, ◌+◌, ◌^◌, [], length, None, IfOk};
 ghost use Rattle.take_disk.specs.inner.Counts.{changes, latest};
 

@@ -1,3 +1,5 @@
+//! What a crash leaves of a disk in memory.
+
 ghost use Rattle.std.specs.Prelude.{◌≡◌, [], None, IfOk};
 ghost use Rattle.take_disk.specs.Held.{Leaves};
 ghost use Rattle.take_disk.specs.Logs.{disk_now};

@@ -1,3 +1,5 @@
+//! Calls of a disk in memory, counted and recorded.
+
 ghost use Rattle.std.specs.Prelude.{◌≡◌, ◌≤◌, ◌<◌, ◌+◌, ◌-◌, ◌^◌, length, false};
 ghost use Rattle.std.specs.Result.{is_err};
 ghost use Rattle.rec_bytes.specs.Faults.{HasCause, Rose};

@@ -1,3 +1,5 @@
+//! Which image a crash leaves.
+
 /// Which image a crash leaves of a disk in memory.
 #[derive(Clone, Copy, Debug, PartialEq, Eq)]
 pub enum Pick {

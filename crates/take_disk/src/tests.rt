@@ -1,3 +1,5 @@
+//! Disks and barriers in memory.
+
 ghost use Rattle.std.specs.Prelude.{◌≡◌, ◌≤◌};
 
 use crate::area::Area;

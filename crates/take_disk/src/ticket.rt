@@ -1,3 +1,5 @@
+//! Tickets of what was done to an area.
+
 use crate::area::Area;
 
 /// An area and the moment at which the ticket was made. A barrier that has run for it keeps what was done before.
