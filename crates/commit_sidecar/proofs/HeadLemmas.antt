@@ -11,15 +11,12 @@ use Rattle.rec_bytes.specs.laws.Spellings.{spelling_long}
 use Rattle.commit_sidecar.specs.declared.head.TheConstants.{MAGIC}
 use Rattle.commit_sidecar.specs.Refusals.{IsNoTake}
 use Rattle.commit_sidecar.specs.Says.{Says, head_of}
-use Rattle.commit_sidecar.specs.inner.Looks.{BeginsHead}
+use Rattle.commit_sidecar.specs.Looks.{BeginsHead}
+use Rattle.commit_sidecar.specs.laws.Records.{length-head}
 
 -- the spelling of a configuration spells it
 pub spells_itself : (bytes : List ℕ) (cfg : Fields) → Spells bytes cfg → Spells (spelling cfg) cfg
 spells_itself bytes cfg s = subst (λ (xs : List ℕ). Spells xs cfg) s.spelled s
-
--- a head has 72 bytes
-pub length-head : (cfg : Fields) → Spells (spelling cfg) cfg → length (head_of cfg) ≡ 72
-length-head cfg s = omega (arith, length-append MAGIC (spelling cfg), spelling_long (spelling cfg) cfg s)
 
 -- the magic, the spelling and a gate, written one behind the other
 pub head_is : (cfg : Fields) (old x y z bytes : List ℕ) → length old ≡ 73 → Spells bytes cfg → x ≡ with_bytes old 0 MAGIC

@@ -10,8 +10,9 @@ use Rattle.commit_sidecar.specs.declared.file.SaidFault.TheVariants.{NoTake, Dam
 use Rattle.commit_sidecar.specs.Notes.{note_of, last_of, Follows}
 use Rattle.commit_sidecar.specs.Refusals.{IsDamaged, Refuses, Breaks}
 use Rattle.commit_sidecar.specs.Says.{Says, head_of, opened, gate_place}
-use Rattle.commit_sidecar.proofs.HeadLemmas.{length-head, same_head, no_refusal, one_place}
-use Rattle.commit_sidecar.proofs.MarkLemmas.{opened-more, length-opened, follow-more, same_marks, shut_stops, breaks_stop}
+use Rattle.commit_sidecar.specs.laws.Records.{length-head, opened-more, length-opened, follow-more}
+use Rattle.commit_sidecar.proofs.HeadLemmas.{same_head, no_refusal, one_place}
+use Rattle.commit_sidecar.proofs.MarkLemmas.{same_marks, shut_stops, breaks_stop}
 
 -- a file says one configuration and one list of marks
 pub says_one : (commits : List ℕ) (cfg other : Fields) (marks others : List Mark) → Says commits cfg marks → Says commits other others

@@ -1,37 +1,11 @@
 -- Open records tell their marks.
-use Rattle.std.proofs.Common.{◌≡◌, ◌≢◌, inl, inr, ℕ, ◌*◌, List, [], ◌∷◌, ◌++◌, length, drop, get_or, Option, Some}
+use Rattle.std.proofs.Common.{◌≡◌, ◌≢◌, inl, inr, ℕ, List, [], ◌∷◌, ◌++◌, length, drop, get_or, Option, Some}
 use Rattle.std.proofs.Common.{refl, sym, ap, ap₂, subst, ◌∙◌, arith, append_assoc}
-use Rattle.std.proofs.lemmas.List.{length-append}
 use Rattle.take_core.specs.declared.mark.Mark.{Mark}
 use Rattle.commit_sidecar.specs.Notes.{note_of, Follows, Follow, last_from}
 use Rattle.commit_sidecar.specs.Refusals.{Breaks}
 use Rattle.commit_sidecar.specs.Says.{opened}
-use Rattle.commit_sidecar.proofs.NoteLemmas.{one_note, length-note}
-
--- an open record behind others
-pub opened-more : (marks : List Mark) (mark : Mark) (rest : List ℕ) → opened (marks ++ mark ∷ []) ++ rest ≡ opened marks ++ (1 ∷ (note_of mark ++ rest))
-opened-more [] mark rest = ap (λ (xs : List ℕ). 1 ∷ xs) (append_assoc (note_of mark) [] rest)
-opened-more (first ∷ marks) mark rest =
-    ap (λ (xs : List ℕ). 1 ∷ xs) (
-    append_assoc (note_of first) (opened (marks ++ mark ∷ [])) rest
-    ∙ ap (λ (xs : List ℕ). note_of first ++ xs) (opened-more marks mark rest)
-    ∙ sym (append_assoc (note_of first) (opened marks) (1 ∷ (note_of mark ++ rest)))
-    )
-
--- an open record has 18 bytes
-pub length-opened : (marks : List Mark) → length (opened marks) ≡ 18 * length marks
-length-opened [] = refl
-length-opened (mark ∷ marks) = omega (arith, length-append (note_of mark) (opened marks), length-note mark, length-opened marks)
-
--- a mark that follows the last one follows them all
-pub follow-more : (last : Option Mark) (marks : List Mark) (mark : Mark) → Follow last marks → Follows (last_from last marks) mark → Follow last (marks ++ mark ∷ [])
-follow-more last [] mark follow next = (next, tt)
-follow-more last (first ∷ marks) mark follow next = (follow.0, follow-more (Some first) marks mark follow.1 next)
-
--- and is then the last one
-pub last-more : (last : Option Mark) (marks : List Mark) (mark : Mark) → last_from last (marks ++ mark ∷ []) ≡ Some mark
-last-more last [] mark = refl
-last-more last (first ∷ marks) mark = last-more (Some first) marks mark
+use Rattle.commit_sidecar.proofs.NoteLemmas.{one_note}
 
 -- bytes behind open records begin no further one
 abbrev pub Stops : Option Mark → List ℕ → Type 0

@@ -1,7 +1,7 @@
 -- The bytes of a note tell its mark.
 use Rattle.std.proofs.Common.{◌≡◌, ◌==◌, ℕ, zero, suc, ◌<◌, ◌≤◌, ◌^◌, Bool, true, false, List, [], ◌∷◌, ◌++◌, length, take, drop, get_or, slice_index}
 use Rattle.std.proofs.Common.{refl, sym, ap, ◌∙◌, arith, append_assoc}
-use Rattle.std.proofs.lemmas.List.{get_or-take, length-drop, length-append, length-take-le, drop_at, drop-drop, drop_more, take-append-drop}
+use Rattle.std.proofs.lemmas.List.{get_or-take, length-drop, length-take-le, drop_at, drop-drop, drop_more, take-append-drop}
 use Rattle.std.proofs.lemmas.Nat.{be_bytes_8}
 use Rattle.std.specs.Int.{from_be_bytes, w64}
 use Rattle.byteorder.specs.Endian.{big_number, big_bytes}
@@ -9,7 +9,7 @@ use Rattle.byteorder.specs.Numbers.{big_from-lt, big_number-reads_back, length-b
 use Rattle.rec_bytes.specs.laws.Bytes.{AreBytes, taken_bytes, left_bytes}
 use Rattle.take_core.specs.declared.mark.Mark.{Mark}
 use Rattle.commit_sidecar.specs.Notes.{note_of, closed_byte, Fits}
-use Rattle.commit_sidecar.specs.inner.Looks.{BeginsNote}
+use Rattle.commit_sidecar.specs.inner.Begins.{BeginsNote}
 
 -- the number of eight bytes, in std's word
 number_8 : (xs : List ℕ) → big_number 8 xs ≡ from_be_bytes w64 (take 8 xs)
@@ -41,17 +41,6 @@ pub parts : (mark : Mark) (rest : List ℕ)
 parts mark rest =
     append_assoc (big_bytes 8 mark.count) (big_bytes 8 mark.length ++ (closed_byte mark.closed ∷ [])) rest
     ∙ ap (λ (xs : List ℕ). big_bytes 8 mark.count ++ xs) (append_assoc (big_bytes 8 mark.length) (closed_byte mark.closed ∷ []) rest)
-
--- a note has 17 bytes
-pub length-note : (mark : Mark) → length (note_of mark) ≡ 17
-length-note mark =
-    omega (
-      arith,
-      length-append (big_bytes 8 mark.count) (big_bytes 8 mark.length ++ (closed_byte mark.closed ∷ [])),
-      length-append (big_bytes 8 mark.length) (closed_byte mark.closed ∷ []),
-      length-bytes_high_first 8 mark.count,
-      length-bytes_high_first 8 mark.length,
-    )
 
 -- a byte that is 0 or 1 is that of the test whether it is 1
 flag_is : (n : ℕ) → n ≤ 1 → n ≡ closed_byte (n == 1)

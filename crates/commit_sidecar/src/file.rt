@@ -3,11 +3,12 @@
 ghost use Rattle.std.specs.Prelude.{◌≡◌, ◌≤◌, ◌+◌, ◌*◌, ◌^◌, IfOk, IfErr};
 ghost use Rattle.commit_sidecar.specs.Says.{SaysSo, gate_place};
 ghost use Rattle.commit_sidecar.specs.Refusals.{Refuses};
-ghost use Rattle.commit_sidecar.specs.inner.Looks.{BeginsHead, Sees};
+ghost use Rattle.commit_sidecar.specs.Looks.{BeginsHead};
 ghost use Rattle.rec_bytes.specs.Views.{view};
 
 use crate::head::{HEAD_LEN, read_head};
-use crate::note::{RECORD_LEN, is_after, read_note};
+use crate::looks::{Look, look_at};
+use crate::note::RECORD_LEN;
 use rec_bytes::Config;
 use take_core::Mark;
 use thiserror::Error;
@@ -91,38 +92,5 @@ fn read_records(bytes: &[u8], config: Config) -> Result<Said, SaidFault>
                 mark = Some(next);
             }
         }
-    }
-}
-
-/// What bytes behind open records begin with.
-#[derive(Clone, Copy)]
-pub enum Look {
-    /// A gate that isn't 1.
-    Shut,
-    /// An open record of a mark that may stand there.
-    Open(Mark),
-    /// Nothing, or an open record of no such mark.
-    Broken,
-}
-
-/// Looks at the bytes behind open records, of which the last has a mark.
-fn look_at(rest: &[u8], last: Option<Mark>) -> Look
-    ensures { Sees last rest.now result }
-{
-    if rest.is_empty() {
-        return Look::Broken;
-    }
-    if rest[0] != 1 {
-        return Look::Shut;
-    }
-    match read_note(&rest[1..]) {
-        Some(next) => {
-            if is_after(last, next) {
-                Look::Open(next)
-            } else {
-                Look::Broken
-            }
-        }
-        None => Look::Broken,
     }
 }

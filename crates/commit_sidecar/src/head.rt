@@ -4,7 +4,7 @@ ghost use Rattle.std.specs.Prelude.{◌≡◌, ◌∷◌, ◌++◌, ◌≤◌, [
 ghost use Rattle.rec_bytes.specs.Views.{view};
 ghost use Rattle.commit_sidecar.specs.Says.{Says, head_of};
 ghost use Rattle.commit_sidecar.specs.Refusals.{IsNoTake, DiffersAt};
-ghost use Rattle.commit_sidecar.specs.inner.Looks.{BeginsHead};
+ghost use Rattle.commit_sidecar.specs.Looks.{BeginsHead};
 ghost use Rattle.commit_sidecar.specs.declared.head.TheConstants.{MAGIC, MAGIC_LEN};
 
 use rec_bytes::{CONFIG_LEN, Config, put_bytes, put_config, put_u8, read_config};
@@ -34,8 +34,8 @@ pub fn put_head(cfg: &Config, out: &mut [u8; FIRST_GATE])
 }
 
 /// Reads the head of a commit file. `Err` is the place of the first byte that is no part of a head, or the length where the
-/// head is cut.
-pub(crate) fn read_head(bytes: &[u8]) -> Result<Config, u64>
+/// head is cut. The first `HEAD_LEN` bytes decide.
+pub fn read_head(bytes: &[u8]) -> Result<Config, u64>
     ensures head { IfOk result (λ config. BeginsHead bytes.now (view config)) }
 
     ensures refused { IfErr result (IsNoTake bytes.now) }

@@ -2,7 +2,7 @@
 
 ghost use Rattle.std.specs.Prelude.{◌≡◌, ◌≢◌, ◌<◌, ◌^◌, ◌∷◌, ◌++◌, [], true, false, List, ℕ, None, IfSome};
 ghost use Rattle.commit_sidecar.specs.Notes.{note_of, Fits, IsAfter};
-ghost use Rattle.commit_sidecar.specs.inner.Looks.{BeginsNote};
+ghost use Rattle.commit_sidecar.specs.inner.Begins.{BeginsNote};
 ghost use Rattle.take_core.specs.declared.mark.Mark.{Mark};
 
 use byteorder::{BigEndian, ByteOrder};

@@ -1,5 +1,7 @@
 use crate::{
-    Said, SaidFault, commits_say, files_say_one_thing, gate_at, last_open, put_head, put_note,
+    HEAD_LEN, Look, RECORD_LEN, Said, SaidFault, commits_say, files_say_one_thing,
+    first_bytes_decide, gate_at, last_open, look_at, marks_follow, put_head, put_note, read_head,
+    reading_ends, records_are_read,
 };
 use rec_bytes::Config;
 use take_core::Mark;
@@ -202,4 +204,22 @@ fn only_a_gate_that_is_one_is_open(rt: HostRuntime) {
             "{what}"
         );
     }
+}
+
+// The example, read in pieces of which none is longer than a head or a record.
+#[test]
+fn a_file_is_read_piece_by_piece(rt: HostRuntime) {
+    assert_eq!(rt; read_head(&CLOSED[..HEAD_LEN]), Ok(example()));
+    assert_eq!(rt; read_head(&CLOSED[..HEAD_LEN - 1]), Err(71));
+    let first = &CLOSED[HEAD_LEN..HEAD_LEN + RECORD_LEN];
+    assert_eq!(rt; look_at(first, None), Look::Open(FIRST));
+    assert_eq!(rt; look_at(first, Some(LAST)), Look::Broken);
+    let second = &CLOSED[90..90 + RECORD_LEN];
+    assert_eq!(rt; look_at(second, Some(FIRST)), Look::Open(LAST));
+    assert_eq!(rt; look_at(&CLOSED[108..], Some(LAST)), Look::Shut);
+    assert_eq!(rt; look_at(&CLOSED[109..], Some(LAST)), Look::Broken);
+    records_are_read();
+    reading_ends();
+    first_bytes_decide();
+    marks_follow();
 }

@@ -1,10 +1,10 @@
 use Rattle.std.proofs.Common.{subst, refl, ℕ, List, drop, None}
 use Rattle.std.proofs.lemmas.List.{take_rest}
 use Rattle.rec_bytes.specs.Views.{view}
-use Rattle.commit_sidecar.specs.inner.Looks.{Sees}
+use Rattle.commit_sidecar.specs.Looks.{Sees}
 use Rattle.commit_sidecar.specs.Refusals.{Breaks}
-use Rattle.commit_sidecar.specs.declared.file.Look.TheVariants.{Shut, Open}
-use Rattle.commit_sidecar.proofs.FileLemmas.{begun, read_more, room_for, read_within, read_said, read_damaged}
+use Rattle.commit_sidecar.specs.declared.looks.Look.TheVariants.{Shut, Open}
+use Rattle.commit_sidecar.specs.laws.Reads.{begun, read_more, room_for, read_within, read_said, read_damaged}
 use Rattle.commit_sidecar.proofs.file.read_records.Goals as goal
 
 pub records-init : goal.records-init

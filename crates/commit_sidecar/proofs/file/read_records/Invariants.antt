@@ -1,6 +1,6 @@
 use Rattle.std.proofs.Common.{◌-◌, ◌≤◌, length}
 use Rattle.rec_bytes.specs.Views.{view}
-use Rattle.commit_sidecar.specs.inner.Looks.{HasRead}
+use Rattle.commit_sidecar.specs.Looks.{HasRead}
 use Rattle.commit_sidecar.proofs.file.read_records.Given as goal
 
 -- the records before the place are open
