@@ -1,0 +1,11 @@
+pub mod Commits
+pub mod Essence
+pub mod Found
+pub mod Kept
+pub mod Lists
+pub mod Moments
+pub mod Records
+pub mod Runs
+pub mod Safety
+pub mod Settling
+pub mod Told
