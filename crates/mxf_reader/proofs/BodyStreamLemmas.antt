@@ -4,7 +4,7 @@ use Rattle.std.specs.List.{flat_map}
 use Rattle.mxf_op1a.specs.Clauses.{broken_6, first_place, lacking, offset_in, other_elements, places, stream_offsets}
 use Rattle.mxf_op1a.specs.Contents.{Placed, is_pack}
 use Rattle.mxf_op1a.specs.Partitions.{File, Part, all_but_last, elements, file_of, last_of, parts, stream_len, up_to}
-use Rattle.mxf_reader.specs.inner.Seen.{part_streams, streams_of}
+use Rattle.mxf_reader.specs.inner.Seen.{part_streams, streams_in}
 
 -- no first place, no places
 no_place : (places : List ℕ) → first_place places ≡ None → places ≡ []
@@ -67,7 +67,7 @@ file_streams (first ∷ next ∷ rest) header footer =
 
 -- the streams of all elements are those of the bodies'
 pub element_streams : (len : ℕ) (items : List Placed) → broken_6 len (up_to is_pack items) (file_of (parts len items)) ≡ None
-    → streams_of len items ≡ stream_offsets 0 (file_of (parts len items)).bodies
+    → streams_in len items ≡ stream_offsets 0 (file_of (parts len items)).bodies
 element_streams len items e =
     let all : List Part = parts len items in
     let stand = stand_in_bodies len (up_to is_pack items) (file_of all) e in

@@ -16,11 +16,12 @@ use Rattle.mxf_reader.specs.inner.Files.{AreSeen, IsClosed, IsSeen, mark_if}
 use Rattle.mxf_reader.specs.inner.Kept.{IsKept, element_by, elements_from, front, last, last_by, segment_by, segment_of, seen_element}
 use Rattle.mxf_reader.specs.inner.Marks.{kind_of, mark_of}
 use Rattle.mxf_reader.specs.inner.Parts.{closed_at, element_place, first_of, fresh, is_first, due_behind, pack_next, with_item, going_next}
-use Rattle.mxf_reader.specs.inner.Seen.{seen_parts, streams_of}
+use Rattle.mxf_reader.specs.inner.Index.{streams_of}
+use Rattle.mxf_reader.specs.inner.Seen.{seen_parts, streams_in}
 use Rattle.mxf_reader.specs.inner.Walks.{AreWalked}
 use Rattle.mxf_reader.proofs.PartLemmas.{first_at}
 use Rattle.mxf_reader.proofs.SeenLemmas.{parts_seen}
-use Rattle.mxf_reader.proofs.StreamLemmas.{place_streams, pushed, streams_seen}
+use Rattle.mxf_reader.proofs.StreamLemmas.{pushed, streams_seen}
 
 -- behind a pack no element stands before all packs
 front_next : (k : Kind) (p : SeenPart) (m : Mark) (ms : List Mark) → ((q : SeenPart) → front (Some q) ms ≡ None) → front (pack_next k (Some p) m) ms ≡ None
@@ -119,7 +120,7 @@ are_seen w len file ps h k = record {
       ∙ elements_seen (λ e. e.at) (λ p. p.at + (17 + p.item.form)) (λ so x. refl) None ps;
   sizes = ap (map (λ (e : Place). e.len)) (h.elements ∙ k.elements)
       ∙ elements_seen (λ e. e.len) (λ p. length p.item.value) (λ so x. refl) None ps;
-  streams = ap place_streams (h.elements ∙ k.elements) ∙ streams_seen len ps ∙ ap (λ (n : ℕ). streams_of n ps) (sym h.len_is);
+  streams = ap streams_of (h.elements ∙ k.elements) ∙ streams_seen len ps ∙ ap (λ (n : ℕ). streams_in n ps) (sym h.len_is);
   segments = h.segments ∙ k.segments ∙ segments_seen ps;
   last = h.last ∙ k.last ∙ last_seen None ps;
 }

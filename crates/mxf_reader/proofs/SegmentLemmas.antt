@@ -14,43 +14,15 @@ use Rattle.mxf_index.specs.Reads.{Frames, HasFault, HasOtherKey, Refuses, frames
 use Rattle.mxf_index.specs.declared.fault.SegmentFault.{SegmentFault}
 use Rattle.mxf_index.specs.declared.fault.SegmentFault.TheVariants.{SegmentCut, SegmentField, EntryOrder, Memory}
 use Rattle.mxf_names.specs.declared.keys.TheConstants.{INDEX_SEGMENT_KEY}
-use Rattle.mxf_op1a.specs.Clauses.{broken_9, entry_count, joins, offset_in, stream_offsets}
-use Rattle.mxf_op1a.specs.Contents.{Placed, is_pack}
-use Rattle.mxf_op1a.specs.Kept.{HasNone, HoldsElements}
-use Rattle.mxf_op1a.specs.Partitions.{Part, all_but_last, elements, file_of, last_of, parts, stream_len, up_to}
+use Rattle.mxf_op1a.specs.Clauses.{broken_9, entry_count, joins}
+use Rattle.mxf_op1a.specs.Contents.{Placed}
 use Rattle.mxf_op1a.specs.Whole.{StandsIn}
-use Rattle.mxf_reader.specs.declared.file.SeenFile.{SeenFile}
 use Rattle.mxf_reader.specs.declared.mark.Mark.{Mark}
 use Rattle.mxf_reader.specs.declared.mark.Kind.TheVariants.{Filler}
-use Rattle.mxf_reader.specs.inner.Files.{AreSeen}
 use Rattle.mxf_reader.specs.inner.Index.{added, streams_of}
 use Rattle.mxf_reader.specs.inner.Items.{IsMarkOf}
 use Rattle.mxf_reader.specs.inner.Marks.{mark_of}
-use Rattle.mxf_reader.specs.inner.Seen.{front_streams, part_streams}
 use Rattle.take_layout.specs.declared.place.Place.{Place}
-
--- where elements stand only in bodies, the offsets that are kept are those of the bodies' elements
-bodies_streams : (due : ℕ) (p : Part) (ps : List Part) → HasNone (last_of p ps)
-    → part_streams false due (p ∷ ps) ≡ stream_offsets due (all_but_last p ps)
-unfolding part_streams stream_offsets last_of all_but_last
-bodies_streams due p [] none = ap (λ (es : List Placed). map (offset_in p due) es ++ []) none
-bodies_streams due p (q ∷ ps) none =
-    ap (λ (xs : List ℕ). map (offset_in p due) (elements p.items) ++ xs) (bodies_streams (due + stream_len p) q ps none)
-
-streams_seen : (front : List Placed) (ps : List Part) → HoldsElements front (file_of ps)
-    → front_streams front ++ part_streams true 0 ps ≡ stream_offsets 0 (file_of ps).bodies
-unfolding part_streams stream_offsets
-streams_seen front [] h = ap (λ (es : List Placed). map (λ (p : Placed). 0) es ++ []) h.front
-streams_seen front (p ∷ []) h =
-    ap₂ (λ (es fs : List Placed). map (λ (p : Placed). 0) es ++ (map (offset_in p 0) fs ++ [])) h.front h.header.0
-streams_seen front (p ∷ q ∷ ps) h =
-    ap₂ (λ (es fs : List Placed). map (λ (p : Placed). 0) es ++ (map (offset_in p 0) fs ++ part_streams false 0 (q ∷ ps))) h.front h.header.0
-    ∙ bodies_streams 0 q ps h.footer.0
-
-pub offsets_are : (file : SeenFile) (items : List Placed) → AreSeen items file
-    → HoldsElements (up_to is_pack items) (file_of (parts file.len items))
-    → streams_of file.elements.items ≡ stream_offsets 0 (file_of (parts file.len items)).bodies
-offsets_are file items seen held = seen.streams ∙ streams_seen (up_to is_pack items) (parts file.len items) held
 
 -- each of those that keep a test
 pub filter_all : {X : Type 0} (P : X → Type 0) (test : X → Bool) (xs : List X) → AllByRecursion P xs → AllByRecursion P (filter test xs)

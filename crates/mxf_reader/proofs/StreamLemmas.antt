@@ -8,21 +8,17 @@ use Rattle.mxf_op1a.specs.Partitions.{Part, being, elements, from_first, part_of
 use Rattle.mxf_partitions.specs.declared.partition.Partition.{Partition}
 use Rattle.mxf_reader.specs.declared.mark.Mark.{Mark}
 use Rattle.mxf_reader.specs.declared.part.SeenPart.{SeenPart}
+use Rattle.mxf_reader.specs.inner.Index.{streams_of}
 use Rattle.mxf_reader.specs.inner.Kept.{element_by, elements_from}
 use Rattle.mxf_reader.specs.inner.Marks.{kind_of, mark_of}
 use Rattle.mxf_reader.specs.inner.Parts.{due_by, fresh, offset_at, pack_next, place_or, with_item}
-use Rattle.mxf_reader.specs.inner.Seen.{due_with, part_streams, seen_part, streams_of}
+use Rattle.mxf_reader.specs.inner.Seen.{due_with, part_streams, seen_part, streams_in}
 use Rattle.mxf_reader.proofs.PartLemmas.{first_at, item_more, part}
 use Rattle.mxf_reader.proofs.SeenLemmas.{due_same}
-use Rattle.take_layout.specs.declared.place.Place.{Place}
 
--- the places of what is kept in the essence stream
-abbrev pub place_streams : List Place → List ℕ
-place_streams es = map (λ (e : Place). e.stream) es
-
--- those behind an item that is this
+-- the stream offsets of what is kept behind an item that is this
 abbrev streams_by : Content → Option SeenPart → Placed → List Mark → List ℕ
-streams_by c so x ms = place_streams (element_by (kind_of c) so (mark_of x) ++ elements_from (pack_next (kind_of c) so (mark_of x)) ms)
+streams_by c so x ms = streams_of (element_by (kind_of c) so (mark_of x) ++ elements_from (pack_next (kind_of c) so (mark_of x)) ms)
 
 -- those of some elements of a partition, and of the partitions behind it
 abbrev goes_on : Bool → ℕ → Part → List Placed → List Part → List ℕ
@@ -53,7 +49,7 @@ offset_same first due at pack before up begin end x e =
 
 -- a pack ends a partition, and the next begins
 at_pack : (len : ℕ) (first : Bool) (due at : ℕ) (pack : Partition) (before : List Placed) (begin : ℕ) (x : Placed) (ps : List Placed) (next : Partition)
-    → ((d : ℕ) → place_streams (elements_from (Some (seen_part false d (part x.at next [] x.at))) (map mark_of ps))
+    → ((d : ℕ) → streams_of (elements_from (Some (seen_part false d (part x.at next [] x.at))) (map mark_of ps))
     ≡ goes_on false d (part x.at next ([] ++ up_to is_pack ps) (place_of len (from_first is_pack ps))) (elements (up_to is_pack ps)) (parts len ps))
     → streams_by (Pack next) (Some (seen_part first due (part at pack before begin))) x (map mark_of ps)
     ≡ goes_on first due (part at pack (before ++ []) x.at) [] (part_of len x ps (Pack next) ++ parts len ps)
@@ -63,16 +59,16 @@ at_pack len first due at pack before begin x ps next h =
     let whole : Part = part at pack (before ++ []) x.at in
     let same : due_by first so x.at ≡ due_with first due whole =
     due_same first due at pack before begin x.at ∙ ap (λ (items : List Placed). due_with first due (part at pack items x.at)) (sym (append-nil before)) in
-    ap (λ (d : ℕ). place_streams (elements_from (Some (fresh false d x.at next)) (map mark_of ps))) same ∙ h (due_with first due whole)
+    ap (λ (d : ℕ). streams_of (elements_from (Some (fresh false d x.at next)) (map mark_of ps))) same ∙ h (due_with first due whole)
 
 -- another item is one more of it
 at_item : (len : ℕ) (first : Bool) (due at : ℕ) (pack : Partition) (before : List Placed) (begin : ℕ) (x : Placed) (ps : List Placed)
-    → place_streams (elements_from (Some (seen_part first due (part at pack (before ++ x ∷ []) begin))) (map mark_of ps))
+    → streams_of (elements_from (Some (seen_part first due (part at pack (before ++ x ∷ []) begin))) (map mark_of ps))
     ≡ goes_on first due (part at pack ((before ++ x ∷ []) ++ up_to is_pack ps) (place_of len (from_first is_pack ps))) (elements (up_to is_pack ps)) (parts len ps)
-    → place_streams (elements_from (Some (with_item (seen_part first due (part at pack before begin)) (mark_of x))) (map mark_of ps))
+    → streams_of (elements_from (Some (with_item (seen_part first due (part at pack before begin)) (mark_of x))) (map mark_of ps))
     ≡ goes_on first due (part at pack (before ++ x ∷ up_to is_pack ps) (place_of len (from_first is_pack ps))) (elements (up_to is_pack ps)) (parts len ps)
 at_item len first due at pack before begin x ps h =
-    ap (λ (p : SeenPart). place_streams (elements_from (Some p) (map mark_of ps))) (item_more first due at pack before begin x)
+    ap (λ (p : SeenPart). streams_of (elements_from (Some p) (map mark_of ps))) (item_more first due at pack before begin x)
     ∙ h
     ∙ ap (λ (items : List Placed). goes_on first due (part at pack items (place_of len (from_first is_pack ps))) (elements (up_to is_pack ps)) (parts len ps))
     (append_assoc before (x ∷ []) (up_to is_pack ps))
@@ -87,9 +83,9 @@ behind_part len first due at pack before x ps es c =
 
 -- what an item adds, by what it is
 at_next : (c : Content) (len : ℕ) (first : Bool) (due at : ℕ) (pack : Partition) (before : List Placed) (begin : ℕ) (x : Placed) (ps : List Placed)
-    → ((d : ℕ) (next : Partition) → place_streams (elements_from (Some (seen_part false d (part x.at next [] x.at))) (map mark_of ps))
+    → ((d : ℕ) (next : Partition) → streams_of (elements_from (Some (seen_part false d (part x.at next [] x.at))) (map mark_of ps))
     ≡ goes_on false d (part x.at next ([] ++ up_to is_pack ps) (place_of len (from_first is_pack ps))) (elements (up_to is_pack ps)) (parts len ps))
-    → place_streams (elements_from (Some (with_item (seen_part first due (part at pack before begin)) (mark_of x))) (map mark_of ps))
+    → streams_of (elements_from (Some (with_item (seen_part first due (part at pack before begin)) (mark_of x))) (map mark_of ps))
     ≡ goes_on first due (part at pack (before ++ x ∷ up_to is_pack ps) (place_of len (from_first is_pack ps))) (elements (up_to is_pack ps)) (parts len ps)
     → (is_element c ≡ true → offset_at (seen_part first due (part at pack before begin)) x.at
     ≡ offset_in (part at pack (before ++ x ∷ up_to is_pack ps) (place_of len (from_first is_pack ps))) due x)
@@ -106,7 +102,7 @@ at_next Other len first due at pack before begin x ps p h o = h
 
 -- the elements behind a partition that goes on
 behind : (len : ℕ) (first : Bool) (due at : ℕ) (pack : Partition) (before : List Placed) (begin : ℕ) (ps : List Placed)
-    → place_streams (elements_from (Some (seen_part first due (part at pack before begin))) (map mark_of ps))
+    → streams_of (elements_from (Some (seen_part first due (part at pack before begin))) (map mark_of ps))
     ≡ goes_on first due (part at pack (before ++ up_to is_pack ps) (place_of len (from_first is_pack ps))) (elements (up_to is_pack ps)) (parts len ps)
 unfolding elements_from parts up_to from_first part_streams
 behind len first due at pack before begin [] = refl
@@ -125,9 +121,9 @@ at_start es ps = map (λ (p : Placed). 0) es ++ part_streams true 0 ps
 
 -- what an item before all packs adds, by what it is
 at_front : (c : Content) (len : ℕ) (x : Placed) (ps : List Placed)
-    → ((next : Partition) → place_streams (elements_from (Some (seen_part true 0 (part x.at next [] x.at))) (map mark_of ps))
+    → ((next : Partition) → streams_of (elements_from (Some (seen_part true 0 (part x.at next [] x.at))) (map mark_of ps))
     ≡ goes_on true 0 (part x.at next ([] ++ up_to is_pack ps) (place_of len (from_first is_pack ps))) (elements (up_to is_pack ps)) (parts len ps))
-    → place_streams (elements_from None (map mark_of ps)) ≡ at_start (elements (up_to is_pack ps)) (parts len ps)
+    → streams_of (elements_from None (map mark_of ps)) ≡ at_start (elements (up_to is_pack ps)) (parts len ps)
     → streams_by c None x (map mark_of ps)
     ≡ at_start (if is_pack c then [] else (if is_element c then x ∷ elements (up_to is_pack ps) else elements (up_to is_pack ps))) (part_of len x ps c ++ parts len ps)
 unfolding part_streams from_first
@@ -142,7 +138,7 @@ at_front Other len x ps p h = h
 
 -- the elements' places in the stream are those of the file's elements
 pub streams_seen : (len : ℕ) (ps : List Placed)
-    → place_streams (elements_from None (map mark_of ps)) ≡ streams_of len ps
+    → streams_of (elements_from None (map mark_of ps)) ≡ streams_in len ps
 unfolding elements_from parts up_to part_streams
 streams_seen len [] = refl
 streams_seen len (x ∷ ps) =

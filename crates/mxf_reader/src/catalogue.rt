@@ -162,3 +162,30 @@ fn read_unit<D: TakeDisk>(alloc: Global, disk: &mut D, place: Place) -> Result<V
         }),
     }
 }
+
+#[cfg(test)]
+mod tests {
+    use super::*;
+    use std::test::Fail;
+    use take_disk::MemoryDisk;
+
+    #[test]
+    fn a_unit_is_the_bytes_at_its_place(rt: HostRuntime) -> Result<(), Fail> {
+        let mut disk = MemoryDisk::new(rt.alloc(), b"abcdefgh", b"", 64, 8, &[], None)?;
+        let mut places = Vec::new(rt.alloc());
+        places.push(Place {
+            at: 3,
+            stream: 5,
+            len: 2,
+        })?;
+        let catalogue = Catalogue {
+            places,
+            take_id: [0; 16],
+            bytes: 8,
+            partitions: 0,
+        };
+        let unit = catalogue.unit(rt.alloc(), &mut disk, 0)?;
+        assert_eq!(rt; unit.as_slice(), b"de".as_slice());
+        Ok(())
+    }
+}

@@ -30,7 +30,7 @@ use klv::{SET_HEAD_LEN, items_are_unique};
 use mxf_index::{
     ENTRY_SIZE, SEGMENT_LEN, Segment, SegmentFault, frames_are_of_segments, read_segment,
 };
-use mxf_op1a::{elements_are_relations, items_stand_at_their_places};
+use mxf_op1a::items_stand_at_their_places;
 use rec_bytes::Memory;
 use std::alloc::Global;
 use take_disk::{Area, TakeDisk};
@@ -59,7 +59,6 @@ pub(crate) fn clause_9<D: TakeDisk>(
     ensures cause { HasReadCause (D.fault_count disk.old) (D.fault_count disk.new) result }
 {
     items_stand_at_their_places();
-    elements_are_relations();
     let mut count = 0usize;
     for m in &file.segments {
         let more = entries_at(

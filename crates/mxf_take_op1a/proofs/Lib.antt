@@ -1,6 +1,7 @@
 pub mod ClosedLemmas
 pub mod IndexClauses
 pub mod ItemClauses
+pub mod LedSets
 pub mod LengthClauses
 pub mod LinkLemmas
 pub mod MetadataLemmas

@@ -28,7 +28,7 @@ use Rattle.mxf_metadata.specs.Sets.{preface, identification, content_storage, es
 use Rattle.mxf_metadata.specs.Sets.{sequence, timecode, source_clip, descriptor}
 use Rattle.mxf_metadata.specs.declared.tags.Size.{Size}
 use Rattle.mxf_metadata_reader.specs.References.{first_value, has_id, is_id, ids_in, ids_of_size, names_of}
-use Rattle.mxf_metadata_reader.specs.Sizes.{has_size, has_size_if, is_sized}
+use Rattle.mxf_metadata_reader.specs.Sizes.{has_size, has_size_if, is_sized, size_of}
 use Rattle.mxf_op1a.specs.Metadata.{SetAt, set_with, is_sound_item, is_sound, places_but}
 use Rattle.mxf_take_file.specs.Items.{item_of_set}
 use Rattle.mxf_take_op1a.proofs.ItemClauses.{bytes_self}
@@ -78,16 +78,22 @@ and_true : (b : Bool) → (b && true) ≡ b
 and_true true = refl
 and_true false = refl
 
+-- what an item names
+pub names_are : (item : typed.Item) → IsSized item.value → size_of item.tag ≡ Some (kind_size item.value)
+    → names_of (raw item) ≡ cond (is_reference item.tag) (ids_named item.value) []
+names_are item h size =
+    let sized : is_sized item.tag (value_bytes item.value) ≡ true =
+    ap (λ (found : Option Size). has_size_if found (value_bytes item.value)) size ∙ has_kind item.value h in
+    ap₂ (λ (b : Bool) (found : Option Size). cond (is_reference item.tag && b) (ids_of_size found (value_bytes item.value)) []) sized size
+    ∙ ap₂ (λ (b : Bool) (ids : List (List ℕ)). cond b ids []) (and_true (is_reference item.tag)) (ids_are item.value h)
+
 -- so an item is sound
 sound_item : (s : List SetAt) (item : typed.Item) → IsSized item.value → Row s item → is_sound_item tags s (raw item) ≡ true
 sound_item s item h row =
     let value : List ℕ = value_bytes item.value in
     let sized : is_sized item.tag value ≡ true = ap (λ (size : Option Size). has_size_if size value) row.size ∙ has_kind item.value h in
-    let names : names_of (raw item) ≡ cond (is_reference item.tag) (ids_named item.value) [] =
-    ap₂ (λ (b : Bool) (size : Option Size). cond (is_reference item.tag && b) (ids_of_size size value) []) sized row.size
-    ∙ ap₂ (λ (b : Bool) (ids : List (List ℕ)). cond b ids []) (and_true (is_reference item.tag)) (ids_are item.value h) in
     let found : list_all (λ id. is_some (set_with s id)) (names_of (raw item)) ≡ true =
-    ap (list_all (λ id. is_some (set_with s id))) names ∙ row.named in
+    ap (list_all (λ id. is_some (set_with s id))) (names_are item h row.size) ∙ row.named in
     ap₂ (λ (a b : Bool). (a && b) && list_all (λ id. is_some (set_with s id)) (names_of (raw item))) row.among sized ∙ found
 
 sound_items : (s : List SetAt) (items : List typed.Item) → AllByRecursion (λ item. IsSized item.value) items → AreRows s items

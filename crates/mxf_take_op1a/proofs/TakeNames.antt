@@ -23,7 +23,8 @@ use Rattle.mxf_op1a.specs.Contents.{placed_from}
 use Rattle.mxf_op1a.specs.Metadata.{SetAt, lasts, places_but, sets_from, sets_of}
 use Rattle.mxf_op1a.specs.Partitions.{File, Part, file_of, parts}
 use Rattle.mxf_take_file.specs.Layout.{closed, is_unit}
-use Rattle.mxf_take_op1a.specs.Take.{AreStreamsNamed, SaysDurations, IsUnknown, NamesTake, raw_of, take_file}
+use Rattle.mxf_take_op1a.specs.Take.{AreLinked, AreStreamsNamed, HoldLinks, SaysDurations, IsUnknown, NamesTake, raw_of, take_file}
+use Rattle.mxf_take_op1a.proofs.LedSets.{own_linked}
 use Rattle.mxf_take_op1a.proofs.ReadBack.{ReadBack}
 use Rattle.mxf_take_op1a.proofs.ClosedLemmas.{are_small, sets_read}
 use Rattle.mxf_take_op1a.proofs.LinkLemmas.{has_packages}
@@ -68,6 +69,12 @@ sets_last : (cfg : Fields) (frames : Option ℕ) (partitions : List Part) → Ha
     → HoldSets cfg frames partitions → HaveDuration frames (map raw_of (flat_map sets_of partitions))
 sets_last cfg frames partitions last held =
     subst (HaveDuration frames) (sym (ap (map raw_of) held.are ∙ raw_own held.at (sets cfg (ids_of cfg) frames))) last
+
+-- and lead to sets of the kinds that are due
+sets_linked : (cfg : Fields) (frames : Option ℕ) (partitions : List Part) → IsInRange cfg → HoldSets cfg frames partitions
+    → AreLinked (flat_map sets_of partitions)
+sets_linked cfg frames partitions h held =
+    subst AreLinked (sym held.are) (own_linked cfg (ids_of cfg) frames held.at (are-ids_of cfg h.take_id))
 
 -- which aren't known in the header
 sets_unknown : (cfg : Fields) (partitions : List Part) → HaveDuration None (raw_sets cfg (ids_of cfg) None)
@@ -153,3 +160,14 @@ are_streams_named r cfg units h are =
     subst AreStreamsNamed (sym (file_is_own r cfg units h small))
     (streams_named (shape cfg units) units (length (closed cfg units)) (is_shape r cfg units h small) (name_streams cfg units)
     (first_due cfg units h))
+
+-- and header and footer hold linked sets
+pub are_linked : ReadBack → (cfg : Fields) (units : Units) → IsInRange cfg → AreUnits (is_unit cfg) cfg.max_frames units
+    → HoldLinks (take_file cfg units)
+are_linked r cfg units h are =
+    let small : AreSmall units = are_small cfg units h are in
+    let len : ℕ = length (closed cfg units) in
+    subst HoldLinks (sym (file_is_own r cfg units h small)) (record {
+      header = sets_linked cfg None (header_part (shape cfg units) units ∷ []) h (header_holds r cfg units h small);
+      footer = sets_linked cfg (Some (length units)) (footer_part (shape cfg units) units len ∷ []) h (footer_holds r cfg units len h small);
+    })

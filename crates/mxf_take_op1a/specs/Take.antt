@@ -1,13 +1,17 @@
 -- What a take's closed file says of its take (SMPTE ST 377-1; choices own). docs/FORMATS.md, "A take's file".
-use Rattle.std.specs.Prelude.{◌≡◌, ℕ, ◌==◌, List, [], length, map, filter, replicate, Some, None, if◌then◌else◌}
-use Rattle.std.specs.List.{flat_map, AllByRecursion}
+use Rattle.std.specs.Prelude.{◌≡◌, ℕ, ◌==◌, Bool, true, false, List, [], length, map, filter, replicate, Option, Some, None, if◌then◌else◌}
+use Rattle.std.specs.List.{flat_map, list_all, AllByRecursion}
 use Rattle.rec_bytes.specs.Configuration.{Fields}
 use Rattle.mxf_names.specs.declared.streams.TheConstants.{ESSENCE_STREAM, INDEX_STREAM}
+use Rattle.local_sets.specs.Sets.{RawItem}
 use Rattle.mxf_metadata.specs.Durations.{HaveDuration}
+use Rattle.mxf_metadata.specs.Links.{kinds_named}
 use Rattle.mxf_metadata.specs.RawSets.{RawSet}
+use Rattle.mxf_metadata.specs.Tags.{is_among}
 use Rattle.mxf_metadata_check.specs.Metadata.{take_id_in}
+use Rattle.mxf_metadata_reader.specs.References.{names_of}
 use Rattle.mxf_op1a.specs.Contents.{placed_from, is_segment}
-use Rattle.mxf_op1a.specs.Metadata.{SetAt, lasts, places_but, sets_of}
+use Rattle.mxf_op1a.specs.Metadata.{SetAt, lasts, places_but, set_with, sets_of}
 use Rattle.mxf_op1a.specs.Partitions.{File, Part, being, file_of, parts}
 use Rattle.mxf_take_file.specs.Items.{closed_items}
 use Rattle.mxf_take_file.specs.Layout.{closed}
@@ -49,3 +53,21 @@ pub record AreStreamsNamed (file : File) : Type 0 where
   pub header : AllByRecursion (NamesStreams 0) file.header
   pub bodies : AllByRecursion (NamesStreams ESSENCE_STREAM) file.bodies
   pub footer : AllByRecursion (NamesStreams 0) file.footer
+
+-- a name leads to a set of one of these kinds
+abbrev pub leads_to : List ℕ → Option SetAt → Bool
+leads_to kinds None = false
+leads_to kinds (Some s) = is_among s.set.kind kinds
+
+-- the sets that an item names are of the kinds that its tag may name
+abbrev pub is_linked : List SetAt → RawItem → Bool
+is_linked sets item = list_all (λ id. leads_to (kinds_named item.tag) (set_with sets id)) (names_of item)
+
+-- so are those that each item of each set names
+abbrev pub AreLinked : List SetAt → Type 0
+AreLinked sets = AllByRecursion (λ s. list_all (is_linked sets) s.set.items ≡ true) sets
+
+-- the sets of header and footer are linked so
+pub record HoldLinks (file : File) : Type 0 where
+  pub header : AreLinked (flat_map sets_of file.header)
+  pub footer : AreLinked (flat_map sets_of file.footer)

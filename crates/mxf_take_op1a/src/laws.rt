@@ -8,7 +8,7 @@ ghost use Rattle.take_layout.specs.Takes.{AreUnits};
 ghost use Rattle.mxf_take_file.specs.Items.{closed_items};
 ghost use Rattle.mxf_take_file.specs.Layout.{closed, is_unit};
 ghost use Rattle.mxf_op1a.specs.Op1a.{IsOp1a, units_in};
-ghost use Rattle.mxf_take_op1a.specs.Take.{AreStreamsNamed, SaysDurations, IsUnknown, NamesTake, take_file};
+ghost use Rattle.mxf_take_op1a.specs.Take.{AreStreamsNamed, HoldLinks, SaysDurations, IsUnknown, NamesTake, take_file};
 
 use mxf_index::segments_are_read_back;
 use mxf_metadata::metadata_holds;
@@ -30,8 +30,8 @@ pub fn closed_files_are_op1a()
 }
 
 /// The closed file of a take names its take in header and footer, doesn't know in its header how long it is, as it was
-/// written before the first unit, and names the streams of essence and of index tables. It does nothing: its clauses are
-/// the law.
+/// written before the first unit, names the streams of essence and of index tables, and its sets name sets of the kinds that
+/// are due. It does nothing: its clauses are the law.
 pub fn closed_files_name_their_take()
     ensures take { (cfg : Fields) (units : List (List ℕ)) → IsInRange cfg → AreUnits (is_unit cfg) cfg.max_frames units
         → NamesTake cfg.take_id (take_file cfg units) }
@@ -41,6 +41,8 @@ pub fn closed_files_name_their_take()
         → SaysDurations (length units) (take_file cfg units) }
     ensures streams { (cfg : Fields) (units : List (List ℕ)) → IsInRange cfg → AreUnits (is_unit cfg) cfg.max_frames units
         → AreStreamsNamed (take_file cfg units) }
+    ensures linked { (cfg : Fields) (units : List (List ℕ)) → IsInRange cfg → AreUnits (is_unit cfg) cfg.max_frames units
+        → HoldLinks (take_file cfg units) }
 {
     packs_read_back();
     segments_are_read_back();

@@ -11,7 +11,8 @@ use Rattle.mxf_reader.specs.declared.items.Walked.{Walked}
 use Rattle.mxf_reader.specs.declared.mark.Mark.{Mark}
 use Rattle.mxf_reader.specs.inner.Marks.{mark_of}
 use Rattle.mxf_reader.specs.inner.Parts.{closed_at}
-use Rattle.mxf_reader.specs.inner.Seen.{seen_parts, streams_of}
+use Rattle.mxf_reader.specs.inner.Index.{streams_of}
+use Rattle.mxf_reader.specs.inner.Seen.{seen_parts, streams_in}
 use Rattle.take_layout.specs.declared.place.Place.{Place}
 
 -- what is kept of items, where the last partition ends with a file of this length
@@ -35,8 +36,7 @@ pub record AreSeen (items : List Placed) (file : SeenFile) : Type 0 where
   pub front : file.front ≡ first_place (places (elements (up_to is_pack items)))
   pub values : map (λ (e : Place). e.at) file.elements.items ≡ map (λ (p : Placed). p.at + (17 + p.item.form)) (elements items)
   pub sizes : map (λ (e : Place). e.len) file.elements.items ≡ map (λ (p : Placed). length p.item.value) (elements items)
-  pub streams : map (λ (e : Place). e.stream) file.elements.items
-      ≡ streams_of file.len items
+  pub streams : streams_of file.elements.items ≡ streams_in file.len items
   pub segments : file.segments.items ≡ map mark_of (filter (being is_segment) items)
   pub last : file.last ≡ mark_if (last_item None items)
 

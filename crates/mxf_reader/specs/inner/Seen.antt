@@ -47,5 +47,5 @@ part_streams is_first due (part ∷ parts) =
     map (offset_in part due) (elements part.items) ++ part_streams false (due_with is_first due part) parts
 
 -- those of all elements of a file of this length
-abbrev pub streams_of : ℕ → List Placed → List ℕ
-streams_of len items = front_streams (up_to is_pack items) ++ part_streams true 0 (parts len items)
+abbrev pub streams_in : ℕ → List Placed → List ℕ
+streams_in len items = front_streams (up_to is_pack items) ++ part_streams true 0 (parts len items)

@@ -3,16 +3,17 @@ use Rattle.std.proofs.Common.{refl, sym, ap, ◌∙◌, arith}
 use Rattle.std.proofs.lemmas.List.{length-map}
 use Rattle.mxf_index.specs.Reads.{frames_of}
 use Rattle.mxf_op1a.specs.Clauses.{broken_9, stream_offsets}
-use Rattle.mxf_op1a.specs.Contents.{Placed, is_pack, is_segment, placed_from}
-use Rattle.mxf_op1a.specs.Partitions.{being, file_of, parts, up_to}
+use Rattle.mxf_op1a.specs.Contents.{Placed, is_segment, placed_from}
+use Rattle.mxf_op1a.specs.Partitions.{being, file_of, parts}
 use Rattle.mxf_op1a.specs.Whole.{StandsIn}
 use Rattle.take_disk.specs.laws.TimeLaws.{elapsed_more}
 use Rattle.take_layout.specs.declared.place.Place.{Place}
 use Rattle.mxf_reader.specs.declared.mark.Mark.{Mark}
 use Rattle.mxf_reader.specs.inner.Index.{added, streams_of}
 use Rattle.mxf_reader.specs.inner.Marks.{mark_of}
+use Rattle.mxf_reader.proofs.BodyStreamLemmas.{element_streams}
 use Rattle.mxf_reader.proofs.ItemLemmas.{at_is}
-use Rattle.mxf_reader.proofs.SegmentLemmas.{filter_all, left_are, left_few, no_item, offsets_are, segment_breaks, segment_marked}
+use Rattle.mxf_reader.proofs.SegmentLemmas.{filter_all, left_are, left_few, no_item, segment_breaks, segment_marked}
 use Rattle.mxf_reader.proofs.SegmentLemmas.{segment_next, segments_end}
 use Rattle.mxf_reader.proofs.index.clause_9.Goals as goal
 
@@ -56,8 +57,7 @@ returns-in-None-clause-broken g c =
     let ps : List Placed = filter (being is_segment) items in
     let stand = c.items_stand_at_their_places.ensures.stand told.essence.reads seen.outline in
     let each = filter_all (StandsIn told.essence.reads) (being is_segment) items stand in
-    let held = (c.elements_are_relations.ensures.held len (up_to is_pack items) (file_of (parts len items))).0 kept in
-    let offsets : streams_of es ≡ stream_offsets 0 (file_of (parts len items)).bodies = offsets_are c.args.file.now items seen.seen held in
+    let offsets : streams_of es ≡ stream_offsets 0 (file_of (parts len items)).bodies = seen.seen.streams ∙ element_streams len items kept in
     let ms : List Mark = c.deref-m-items.result.now in
     let k : ℕ = c.loop-m.m-index in
     let same : ms ≡ map mark_of ps = c.deref-m-items.ensures.value ∙ seen.seen.segments in
@@ -81,8 +81,7 @@ returns-clause-broken g c =
     let ps : List Placed = filter (being is_segment) items in
     let stand = c.items_stand_at_their_places.ensures.stand told.essence.reads seen.outline in
     let each = filter_all (StandsIn told.essence.reads) (being is_segment) items stand in
-    let held = (c.elements_are_relations.ensures.held len (up_to is_pack items) (file_of (parts len items))).0 kept in
-    let offsets : streams_of es ≡ stream_offsets 0 (file_of (parts len items)).bodies = offsets_are c.args.file.now items seen.seen held in
+    let offsets : streams_of es ≡ stream_offsets 0 (file_of (parts len items)).bodies = seen.seen.streams ∙ element_streams len items kept in
     let same : c.deref-m-items.result.now ≡ map mark_of ps = c.deref-m-items.ensures.value ∙ seen.seen.segments in
     let high : length ps ≤ c.loop-m.m-index = omega (arith, c.loop-m-test.false, ap length same, length-map ps mark_of) in
     let size = c.len.ensures in
