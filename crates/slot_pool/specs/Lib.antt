@@ -1,0 +1,4 @@
+pub mod Lends
+pub mod Pools
+pub mod Slots
+pub mod inner
