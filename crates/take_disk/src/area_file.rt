@@ -4,15 +4,19 @@ ghost use Rattle.std.specs.Prelude.{◌≡◌, ◌≤◌, ◌+◌, max, length, 
 
 use rec_bytes::Failed;
 use std::fs::OpenFile;
+use std::io::{self, ErrorKind};
 use std::os::unix::fs::FileExt;
 
-/// The file of an area and its length. One that couldn't be opened has no bytes, and each call on it fails.
+/// The file of an area and its length. One that isn't there has no bytes, and can't be written; one that couldn't be opened
+/// has none either, and each call on it fails.
 #[derive(Drop)]
 pub(crate) struct AreaFile<F: FileExt + OpenFile + Drop> {
     pub(crate) file: Option<F>,
     pub(crate) len: u64,
     // Whether its name is settled in its folder.
     pub(crate) is_named: bool,
+    // Whether there is no such file, and so nothing of it to read or to settle.
+    is_absent: bool,
 }
 
 impl<F: FileExt + OpenFile + Drop> AreaFile<F> {
@@ -26,17 +30,35 @@ impl<F: FileExt + OpenFile + Drop> AreaFile<F> {
                 file,
                 len,
                 is_named,
+                is_absent: false,
             },
             Err(_) => AreaFile {
                 file: None,
                 len: 0,
                 is_named,
+                is_absent: false,
+            },
+        }
+    }
+
+    // A file that was opened, or why it wasn't.
+    pub(crate) fn opened(found: io::Result<F>, is_named: bool) -> AreaFile<F> {
+        match found {
+            Ok(file) => AreaFile::new(Some(file), is_named),
+            Err(fault) => AreaFile {
+                file: None,
+                len: 0,
+                is_named,
+                is_absent: fault.kind() == ErrorKind::NotFound,
             },
         }
     }
 
     // Reads to the end of `out`, in as many pieces as it takes.
     pub(crate) fn read(&self, at: u64, out: &mut [u8]) -> Result<(), Failed> {
+        if self.is_absent && out.is_empty() {
+            return Ok(());
+        }
         let Some(file) = &self.file else {
             return Err(Failed);
         };
@@ -80,6 +102,9 @@ impl<F: FileExt + OpenFile + Drop> AreaFile<F> {
     pub(crate) fn sync(&mut self, folder: &Option<F>) -> Result<(), Failed>
         ensures same { self.new.len ≡ self.old.len }
     {
+        if self.is_absent {
+            return Ok(());
+        }
         if !sync_file(&self.file) {
             return Err(Failed);
         }

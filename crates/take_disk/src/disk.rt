@@ -4,7 +4,7 @@ ghost use Rattle.std.specs.Prelude.{◌≡◌, ◌≤◌, ◌+◌, ℕ, Bool, tr
 ghost use Rattle.rec_bytes.specs.Faults.{HasCause};
 ghost use Rattle.take_disk.specs.declared.area.Area.{Area};
 ghost use Rattle.take_disk.specs.declared.ticket.Ticket.{Ticket};
-ghost use Rattle.take_disk.specs.Held.{Moment, Areas, Disk, InArea, Settled, Leaves, IsPast, in_area};
+ghost use Rattle.take_disk.specs.Held.{Moment, IsBefore, Areas, Disk, InArea, Settled, Leaves, IsPast, in_area};
 ghost use Rattle.take_disk.specs.Calls.{IfTold, Steps, WritesIn, Writes, CutsIn, Cuts, Grows, Shrinks, Stays, Elapses};
 ghost use Rattle.take_disk.specs.Tickets.{IsNamed, IsMade, moment_of};
 
@@ -109,6 +109,9 @@ pub trait TakeDisk {
 
     /// A crash now leaves an image of what it holds.
     ghost crash: { (d : Self) (disk : Disk) (image : Areas) → told d ≡ Some disk → images_since d (moment d) image → Leaves disk image };
+
+    /// What a crash at some moment from one on may have left, is also such an image from an earlier one on.
+    ghost earlier: { (d : Self) (a b : Moment) (image : Areas) → IsBefore a b → images_since d b image → images_since d a image };
 
     /// A disk as it reads is one of its images.
     ghost reads_so: { (d : Self) (disk : Disk) → told d ≡ Some disk

@@ -30,8 +30,8 @@ pub enum Access {
 
 /// A disk of two files, which tells no content.
 ///
-/// Essence and commits are `take.mxf` and `take.commits` of a folder. A file that can't be opened has length 0, and each call
-/// on it fails. Reads and writes go on where a piece is moved, and calls that are interrupted are made again.
+/// Essence and commits are `take.mxf` and `take.commits` of a folder. A file that isn't there is an empty one that can't be
+/// written. One that can't be opened has length 0, and each call on it fails. Reads and writes go on where a piece is moved, and calls that are interrupted are made again.
 #[derive(Drop)]
 pub struct FileDisk<F: FileExt + OpenFile + Drop> {
     essence: AreaFile<F>,
@@ -72,8 +72,8 @@ impl<F: FileExt + OpenFile + Drop> FileDisk<F> {
         let commits = format!(in alloc; "{folder}/take.commits")?;
         let is_named = access == Access::Look;
         Ok(FileDisk {
-            essence: AreaFile::new(how.open(rt, essence.as_str()).ok(), is_named),
-            commits: AreaFile::new(how.open(rt, commits.as_str()).ok(), is_named),
+            essence: AreaFile::opened(how.open(rt, essence.as_str()), is_named),
+            commits: AreaFile::opened(how.open(rt, commits.as_str()), is_named),
             folder: File::open(rt, folder).ok(),
             tickets: 0,
             faults: 0,
@@ -112,6 +112,8 @@ impl<F: FileExt + OpenFile + Drop> TakeDisk for FileDisk<F> {
     ghost is_single = { true };
 
     ghost crash = { λ d disk image told left. untold disk told };
+
+    ghost earlier = { λ d a b image before left. tt };
 
     ghost reads_so = { λ d disk told. tt };
 

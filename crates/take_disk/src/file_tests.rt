@@ -3,6 +3,7 @@
 ghost use Rattle.std.specs.Prelude.{◌≡◌, ◌≤◌};
 
 use crate::area::Area;
+use crate::area_file::AreaFile;
 use crate::barrier::Barrier;
 use crate::disk::TakeDisk;
 use crate::file_disk::{Access, FileDisk};
@@ -82,6 +83,10 @@ impl OpenFile for Slow {
     fn sync_data(&self) -> io::Result<()> {
         self.end()
     }
+
+    fn try_clone(&self) -> io::Result<Slow> {
+        Ok(Slow::new(self.is_broken))
+    }
 }
 
 #[test]
@@ -107,6 +112,44 @@ fn pieces_are_moved_to_the_end_and_each_error_is_counted(rt: HostRuntime) {
     }
 }
 
+// Whether the essence's file is broken, and what settling essence and commits answers.
+#[test]
+fn a_barrier_settles_the_file_of_its_ticket(rt: HostRuntime) {
+    let cases = [
+        (true, [Err(Failed), Ok(())]),
+        (false, [Ok(()), Err(Failed)]),
+    ];
+    for (is_broken, want) in cases {
+        let files = (Slow::new(is_broken), Slow::new(!is_broken));
+        let mut disk = FileDisk::new(Some(files.0), Some(files.1));
+        let mut barrier = disk.barrier();
+        for (area, want) in [Area::Essence, Area::Commits].into_iter().zip(want) {
+            assert_eq!(rt; make(&mut disk, Call::Sync(area)), want, "{area:?}");
+            let run = barrier.run(disk.ticket(area)).map(|_| ());
+            assert_eq!(rt; run, want, "{area:?}");
+        }
+        assert_eq!(rt; (disk.faults(), barrier.faults()), (1, 1));
+    }
+}
+
+// Whether the name is settled in the folder, whether the folder is broken, and what settling the file answers.
+#[test]
+fn a_new_file_is_settled_with_its_name(rt: HostRuntime) {
+    let cases = [
+        (true, Some(true), Ok(())),
+        (true, None, Ok(())),
+        (false, Some(false), Ok(())),
+        (false, Some(true), Err(Failed)),
+        (false, None, Err(Failed)),
+    ];
+    for (is_named, folder, want) in cases {
+        let mut file = AreaFile::new(Some(Slow::new(false)), is_named);
+        let folder = folder.map(|is_broken| Slow::new(is_broken));
+        assert_eq!(rt; file.sync(&folder), want, "{is_named} {want:?}");
+        assert_eq!(rt; file.sync(&None), want, "once more");
+    }
+}
+
 #[test]
 fn a_file_that_cannot_be_opened_is_empty_and_fails(rt: HostRuntime) -> Result<(), Fail> {
     let mut disk = FileDisk::open(&rt, rt.alloc(), "/dev/null/take", Access::Make)?;
@@ -126,6 +169,24 @@ fn a_file_that_cannot_be_opened_is_empty_and_fails(rt: HostRuntime) -> Result<()
 }
 
 #[test]
+fn a_file_that_is_not_there_is_empty_and_not_made(rt: HostRuntime) -> Result<(), Fail> {
+    let name = format!(in rt.alloc(); "take-disk-none-{}", process::id(rt.process()))?;
+    let folder = env::temp_dir(&rt)?.join(rt.alloc(), name.as_str())?;
+    let mut disk = FileDisk::open(&rt, rt.alloc(), folder.as_str(), Access::Change)?;
+    let area = Area::Commits;
+    assert_eq!(rt; disk.len(area), 0);
+    assert_eq!(rt; make(&mut disk, Call::Read(area, 0, 0)), Ok(()));
+    assert_eq!(rt; make(&mut disk, Call::Sync(area)), Ok(()));
+    assert_eq!(rt; disk.faults(), 0);
+    assert_eq!(rt; make(&mut disk, Call::Write(area, 0, b"a")), Err(Failed));
+    assert_eq!(rt; make(&mut disk, Call::Cut(area, 0)), Err(Failed));
+    assert_eq!(rt; disk.faults(), 2);
+    let again = FileDisk::open(&rt, rt.alloc(), folder.as_str(), Access::Look)?;
+    assert_eq!(rt; again.len(area), 0);
+    Ok(())
+}
+
+#[test]
 fn a_take_is_written_and_read_again(rt: HostRuntime) -> Result<(), Fail> {
     let name = format!(in rt.alloc(); "take-disk-test-{}", process::id(rt.process()))?;
     let folder = env::temp_dir(&rt)?.join(rt.alloc(), name.as_str())?;
@@ -136,7 +197,7 @@ fn a_take_is_written_and_read_again(rt: HostRuntime) -> Result<(), Fail> {
         Call::Write(Area::Essence, 0, b"unit"),
         Call::Sync(Area::Essence),
         Call::Write(Area::Essence, 2, b"itself"),
-        Call::Cut(Area::Essence, 6),
+        Call::Cut(Area::Essence, 5),
         Call::Write(Area::Commits, 0, b"mark"),
         Call::Sync(Area::Commits),
         Call::Read(Area::Commits, 1, 3),
@@ -148,20 +209,25 @@ fn a_take_is_written_and_read_again(rt: HostRuntime) -> Result<(), Fail> {
     assert_eq!(rt; settled.map(|ticket| ticket.moment), Ok(1));
     assert_eq!(rt; (disk.faults(), barrier.faults()), (0, 0));
 
-    let mut again = FileDisk::open(&rt, rt.alloc(), folder.as_str(), Access::Look)?;
-    assert_eq!(rt;
-        (again.len(Area::Essence), again.len(Area::Commits)),
-        (8, 4)
-    );
-    let mut out = [0u8; 8];
-    if again.len(Area::Essence) >= 8 {
-        assert_eq!(rt; again.read(Area::Essence, 0, &mut out), Ok(()));
+    let writes = [(Access::Look, Err(Failed)), (Access::Change, Ok(()))];
+    for (access, want) in writes {
+        let mut again = FileDisk::open(&rt, rt.alloc(), folder.as_str(), access)?;
+        assert_eq!(rt;
+            (again.len(Area::Essence), again.len(Area::Commits)),
+            (7, 4),
+            "{access:?}"
+        );
+        let mut out = [0u8; 7];
+        if again.len(Area::Essence) >= 7 {
+            assert_eq!(rt; again.read(Area::Essence, 0, &mut out), Ok(()));
+        }
+        assert_eq!(rt; &out, b"unitses", "{access:?}");
+        assert_eq!(rt;
+            make(&mut again, Call::Write(Area::Essence, 0, b"a")),
+            want,
+            "{access:?}"
+        );
     }
-    assert_eq!(rt; &out, b"unitsees");
-    assert_eq!(rt;
-        make(&mut again, Call::Write(Area::Essence, 0, b"a")),
-        Err(Failed)
-    );
     fs::remove_dir_all(&rt, folder.as_path())?;
     Ok(())
 }

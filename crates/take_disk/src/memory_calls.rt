@@ -10,7 +10,7 @@ ghost use Rattle.take_disk.specs.Held.{InArea, Settled, in_area};
 ghost use Rattle.take_disk.specs.Calls.{WritesIn, Writes, CutsIn, Cuts, Grows, Shrinks, Stays};
 ghost use Rattle.take_disk.specs.Logs.{LeavesSince, one, now, disk_now};
 ghost use Rattle.take_disk.specs.Recorded.{IsMadeBy, PassesTime, MakesCall, logs_of, bytes_of, fails_next, passes_room};
-ghost use Rattle.take_disk.specs.laws.LogLaws.{logs_crash, logs_reads_so, logs_past};
+ghost use Rattle.take_disk.specs.laws.LogLaws.{logs_crash, logs_earlier, logs_reads_so, logs_past};
 ghost use Rattle.take_disk.specs.laws.MemoryLaws.{essence_current, commits_current, memory_long};
 
 use crate::area::Area;
@@ -36,6 +36,8 @@ impl TakeDisk for MemoryDisk {
     ghost is_single = { true };
 
     ghost crash = { λ d disk image told left. logs_crash (logs_of d) disk image (essence_current d) (commits_current d) told left };
+
+    ghost earlier = { λ d a b image before left. logs_earlier (logs_of d) a b image before left };
 
     ghost reads_so = { λ d disk told. logs_reads_so (logs_of d) disk (essence_current d) (commits_current d) told };
 

@@ -7,7 +7,7 @@ use Rattle.take_disk.specs.declared.area.Area.TheVariants.{Essence, Commits}
 use Rattle.take_disk.specs.declared.entry.Entry.{Entry}
 use Rattle.take_disk.specs.declared.entry.Deed.{Deed}
 use Rattle.take_disk.specs.declared.entry.Deed.TheVariants.{Write, Cut, Fail, Settle}
-use Rattle.take_disk.specs.Held.{IsBefore, Areas, Held, Disk, IsImage, Leaves, IsPast, in_area}
+use Rattle.take_disk.specs.Held.{Moment, IsBefore, Areas, Held, Disk, IsImage, Leaves, IsPast, in_area}
 use Rattle.take_disk.specs.Logs.{Content, Log, Logs, LeavesSince, one, held_of, fresh, touch, changed, done, replay, up_to, kept_at, kept_now, replayed, now}
 use Rattle.take_disk.specs.Logs.{disk_now}
 use Rattle.take_disk.specs.inner.Counts.{IsSettledSo, latest}
@@ -57,6 +57,9 @@ logs_crash logs disk image e c told (k, le, most, left) =
       essence = now_image logs.essence (now logs) k image.essence e le left.essence;
       commits = now_image logs.commits (now logs) k image.commits c le left.commits;
     })
+
+pub logs_earlier : (logs : Logs) (a b : Moment) (image : Areas) → IsBefore a b → LeavesSince logs b image → LeavesSince logs a image
+logs_earlier logs a b image before (k, le, most, left) = (k, omega (arith, before.first, le), most, left)
 
 pub logs_reads_so : (logs : Logs) (disk : Disk) → IsCurrent logs.essence (now logs) → IsCurrent logs.commits (now logs) → Some (disk_now logs) ≡ Some disk
     → LeavesSince logs (one (now logs)) (record { essence = disk.essence.reads; commits = disk.commits.reads })
