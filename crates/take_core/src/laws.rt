@@ -1,16 +1,18 @@
 //! What holds of every run of a take, whatever events come in whatever order. No function here does anything.
 
-ghost use Rattle.std.specs.Prelude.{◌≡◌, ◌<◌, ◌≤◌, ℕ, List, ◌∷◌, ◌++◌, length, Contains};
+ghost use Rattle.std.specs.Prelude.{◌≡◌, ◌<◌, ◌≤◌, ◌+◌, ℕ, List, ◌∷◌, ◌++◌, length, Contains};
 ghost use Rattle.rec_bytes.specs.Configuration.{Fields};
-ghost use Rattle.take_core.specs.History.{IsLegal, after, latest};
+ghost use Rattle.take_core.specs.History.{IsLegal, acked_in, after, latest, phase_in, published_in};
 ghost use Rattle.take_core.specs.Runs.{Turn, IsRun, WasTaken, look};
 ghost use Rattle.take_core.specs.Sound.{IsSound};
 ghost use Rattle.take_core.specs.States.{CoreState, fresh, published};
 ghost use Rattle.take_core.specs.Steps.{Steps};
+ghost use Rattle.take_core.specs.declared.entry.Entry.{Entry};
 ghost use Rattle.take_core.specs.declared.event.Answer.{Answer};
 ghost use Rattle.take_core.specs.declared.event.Answer.TheVariants.{Done, Seen};
 ghost use Rattle.take_core.specs.declared.event.Event.{Event};
 ghost use Rattle.take_core.specs.declared.event.Event.TheVariants.{Publish, Look};
+ghost use Rattle.take_core.specs.declared.snapshot.Phase.{Phase};
 ghost use Rattle.take_core.specs.declared.snapshot.Snapshot.{Snapshot};
 
 /// An event leads from a state to one state, with one answer.
@@ -50,4 +52,10 @@ pub fn looks_see_the_history()
         → Contains turns (look reader seen) → (seen.step ≤ length last.history) × (seen ≡ after last.history seen.step) }
     ensures rising { (cfg : Fields) (before between behind : List Turn) (last : CoreState) (one other : ℕ) (sooner later : Snapshot)
         → IsRun cfg (before ++ look one sooner ∷ (between ++ look other later ∷ behind)) last → sooner.step ≤ later.step }
+{}
+
+/// The history of a take that goes on has at most an entry for each published and each durable frame.
+pub fn histories_fit()
+    ensures { (lag max_frames : ℕ) (history : List Entry) → IsLegal lag max_frames history → phase_in history ≡ Phase.Growing
+        → length history ≤ published_in history + acked_in history }
 {}

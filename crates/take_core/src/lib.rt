@@ -34,8 +34,8 @@ pub use entry::Entry;
 pub use event::{Answer, Event};
 pub use history::History;
 pub use laws::{
-    looks_see_the_history, published_slices_were_in, runs_are_legal, states_stay_sound,
-    steps_are_one,
+    histories_fit, looks_see_the_history, published_slices_were_in, runs_are_legal,
+    states_stay_sound, steps_are_one,
 };
 pub use mark::{CoreMark, Mark};
 pub use numbers::{

@@ -186,5 +186,6 @@ fn a_history_tells_its_entries(rt: HostRuntime) -> Result<(), Fail> {
     assert_eq!(rt; history.entries(), entries.as_slice());
     assert_eq!(rt; history.into_entries().as_slice(), entries.as_slice());
     crate::states_stay_sound();
+    crate::histories_fit();
     Ok(())
 }
