@@ -21,7 +21,8 @@ length_to layout cfg units count = length (layout.growing cfg (take count units)
 -- The table of phases. The essence reads the file of the units, the closed one where the tail is written; the commits read
 -- what the phase says behind the open records, of which the last is of the acknowledged units; and what the phase asks for is
 -- kept. A ticket that is out will keep what the next phase asks for.
-pub record Table {L : Type 0} (layout : Ghosts L) (cfg : Fields) (units : List (List ℕ)) (acked records : ℕ) (tail : Bool) (phase : CommitPhase) (out : Option Ticket) (held : Disk) : Type 0 where
+pub record Table {L : Type 0} (layout : Ghosts L) (cfg : Fields) (units : List (List ℕ)) (acked records : ℕ) (tail : Bool)
+    (phase : CommitPhase) (out : Option Ticket) (held : Disk) : Type 0 where
   pub is_config : Spells (spelling cfg) cfg
   pub are_units : AreUnits (layout.is_unit cfg) cfg.max_frames units
   pub few : acked ≤ length units

@@ -1,12 +1,12 @@
 -- What the steps of a commit do to the table of phases (own).
 use Rattle.std.proofs.Common.{◌≡◌, ◌≢◌, ◌⊎◌, inl, inr, ℕ, ◌+◌, ◌≤◌, ◌<◌, Bool, true, false, List, [], ◌∷◌, ◌++◌, length, get_or, take, drop, Option, None}
-use Rattle.std.proofs.Common.{refl, sym, ap, subst, ◌∙◌, arith, append_assoc, append-nil, length-append, take_all, take_at, drop_at, take-append-drop, length-drop, true≢false}
+use Rattle.std.proofs.Common.{refl, sym, ap, subst, ◌∙◌, arith, append_assoc}
+use Rattle.std.proofs.Common.{append-nil, length-append, take_all, take_at, drop_at, take-append-drop, length-drop}
 use Rattle.std.proofs.lemmas.List.{drop_more}
 use Rattle.std.proofs.lemmas.Bool.{cases_lt}
 use Rattle.std.proofs.lemmas.Option.{none-some}
 use Rattle.rec_bytes.specs.Configuration.{Fields, Spells, spelling}
 use Rattle.take_core.specs.declared.mark.Mark.{Mark}
-use Rattle.take_core.specs.declared.commit_phase.CommitPhase.{CommitPhase}
 use Rattle.take_core.specs.declared.commit_phase.CommitPhase.TheVariants.{Idle, MarkOut, Marked, NoteOut, Noted, GateOut, Opened}
 use Rattle.take_disk.specs.declared.area.Area.TheVariants.{Essence, Commits}
 use Rattle.take_disk.specs.declared.ticket.Ticket.{Ticket}
@@ -19,11 +19,11 @@ use Rattle.commit_sidecar.specs.Says.{head_of, opened, gate_place}
 use Rattle.commit_sidecar.specs.Recovers.{file_of}
 use Rattle.commit_sidecar.specs.laws.Records.{follow-more}
 use Rattle.commit_phases.specs.Layouts.{LaysOut}
-use Rattle.commit_phases.specs.Phases.{IsDue, commit_bytes, behind_records}
+use Rattle.commit_phases.specs.Phases.{IsDue, commit_bytes}
 use Rattle.commit_phases.specs.Table.{Table, AllSafe, IsClosed, length_to}
 use Rattle.commit_phases.specs.laws.Kept.{moved, kept_on, essence_later}
 use Rattle.commit_phases.specs.laws.Lists.{begins_with}
-use Rattle.commit_phases.specs.laws.Moments.{same_moment, equal_moment}
+use Rattle.commit_phases.specs.laws.Moments.{equal_moment}
 use Rattle.commit_phases.specs.laws.Records.{front_of, front_long, note_long, behind_front, front_more, counts_more, due_follows}
 use Rattle.commit_phases.specs.laws.Safety.{gate_safe, opened_behind}
 
@@ -227,7 +227,8 @@ module _ {L : Type 0} (layout : Ghosts L) (laws : LaysOut layout) (cfg : Fields)
         due = t.due;
         kept = record {
           essence = λ place l. moved _ _ _ _ (ap (λ (h : Held). h.touched place) same) (t.kept.essence place l) synced;
-          commits = λ place l other. moved _ _ _ _ (torn.untouched place (beside place at other)) (t.kept.commits place l tt) (equal_moment _ _ (sym torn.synced));
+          commits = λ place l other. moved _ _ _ _ (torn.untouched place (beside place at other)) (t.kept.commits place l tt)
+              (equal_moment _ _ (sym torn.synced));
           whole_essence = λ e. moved _ _ _ _ (ap (λ (h : Held). h.altered) same) (t.kept.whole_essence e) synced;
           whole_commits = λ w. absurd w;
         };
@@ -243,7 +244,8 @@ module _ {L : Type 0} (layout : Ghosts L) (laws : LaysOut layout) (cfg : Fields)
       ∙ append_assoc (head_of cfg) (opened (marks ++ mark ∷ [])) (0 ∷ rest)
 
 -- An open gate is kept: the units of its mark are acknowledged.
-pub acknowledged : {L : Type 0} (layout : Ghosts L) → LaysOut layout → (cfg : Fields) (units : List (List ℕ)) (acked records : ℕ) (mark : Mark) (out : Option Ticket) (held : Disk)
+pub acknowledged : {L : Type 0} (layout : Ghosts L) → LaysOut layout
+    → (cfg : Fields) (units : List (List ℕ)) (acked records : ℕ) (mark : Mark) (out : Option Ticket) (held : Disk)
     → Table layout cfg units acked records false (Opened mark) out held → Table layout cfg units mark.count (records + 1) false Idle None held
 acknowledged layout laws cfg units acked records mark out held t =
     let long : mark.length ≡ length_to layout cfg units mark.count =
@@ -276,7 +278,8 @@ acknowledged layout laws cfg units acked records mark out held t =
     }
 
 -- The open gate of a closed file is kept: the take is closed.
-pub finished : {L : Type 0} (layout : Ghosts L) → LaysOut layout → (cfg : Fields) (units : List (List ℕ)) (acked records : ℕ) (mark : Mark) (out : Option Ticket) (held : Disk)
+pub finished : {L : Type 0} (layout : Ghosts L) → LaysOut layout
+    → (cfg : Fields) (units : List (List ℕ)) (acked records : ℕ) (mark : Mark) (out : Option Ticket) (held : Disk)
     → Table layout cfg units acked records true (Opened mark) out held → IsClosed layout cfg units (records + 1) held
 finished layout laws cfg units acked records mark out held t =
     let count : mark.count ≡ length units = t.due.all refl in

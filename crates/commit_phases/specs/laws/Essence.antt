@@ -1,5 +1,5 @@
 -- What writes of the essence do to the table of phases (own).
-use Rattle.std.proofs.Common.{◌≡◌, inl, ℕ, ◌+◌, ◌≤◌, ◌<◌, Bool, true, false, List, [], ◌∷◌, ◌++◌, length, take, drop, Option, None}
+use Rattle.std.proofs.Common.{◌≡◌, inl, ℕ, ◌+◌, ◌≤◌, true, false, List, [], ◌∷◌, ◌++◌, length, take, drop, Option, None}
 use Rattle.std.proofs.Common.{refl, sym, ap, subst, ◌∙◌, arith, append_assoc, append-nil, length-append, take_all, take-take, take_at, true≢false}
 use Rattle.std.proofs.lemmas.List.{take-append-le}
 use Rattle.std.proofs.lemmas.Option.{none-some}
@@ -7,14 +7,14 @@ use Rattle.rec_bytes.specs.Configuration.{Fields}
 use Rattle.take_core.specs.declared.mark.Mark.{Mark}
 use Rattle.take_core.specs.declared.commit_phase.CommitPhase.{CommitPhase}
 use Rattle.take_core.specs.declared.commit_phase.CommitPhase.TheVariants.{Idle, MarkOut, Marked, NoteOut, Noted, GateOut, Opened}
-use Rattle.take_disk.specs.declared.area.Area.TheVariants.{Essence, Commits}
+use Rattle.take_disk.specs.declared.area.Area.TheVariants.{Essence}
 use Rattle.take_disk.specs.declared.ticket.Ticket.{Ticket}
 use Rattle.take_disk.specs.Held.{Held, Disk, InArea, Changed}
 use Rattle.take_disk.specs.Calls.{WritesIn, Writes, Cuts}
 use Rattle.take_disk.specs.Tickets.{moment_of}
 use Rattle.take_layout.specs.Takes.{AreUnits}
 use Rattle.take_layout.specs.declared.layout.TakeLayout.{Ghosts}
-use Rattle.commit_sidecar.specs.Recovers.{file_of, mark_of}
+use Rattle.commit_sidecar.specs.Recovers.{file_of}
 use Rattle.commit_phases.specs.Layouts.{LaysOut}
 use Rattle.commit_phases.specs.Phases.{IsDue, Due, IsKept, WillKeep, settled, waits_for}
 use Rattle.commit_phases.specs.Table.{Table, length_to}
@@ -134,7 +134,8 @@ module _ {L : Type 0} (layout : Ghosts L) (laws : LaysOut layout) (cfg : Fields)
       → Writes Essence at unit old new → (rest : List ℕ) × (new.essence.reads ≡ layout.growing cfg (units ++ unit ∷ []) ++ rest)
   unit_reads at lead unit more old new is place reads wrote =
       let front : List ℕ = layout.growing cfg units ++ lead in
-      let written = written_at front more unit old.essence.reads new.essence.reads at reads (omega (arith, place, length-append (layout.growing cfg units) lead)) wrote in
+      let end : at ≡ length front = omega (arith, place, length-append (layout.growing cfg units) lead) in
+      let written = written_at front more unit old.essence.reads new.essence.reads at reads end wrote in
       let grown : front ++ unit ≡ layout.growing cfg (units ++ unit ∷ []) =
       append_assoc (layout.growing cfg units) lead unit
       ∙ ap (λ (xs : List ℕ). layout.growing cfg units ++ (xs ++ unit)) is
@@ -145,7 +146,8 @@ module _ {L : Type 0} (layout : Ghosts L) (laws : LaysOut layout) (cfg : Fields)
   pub published : (phase : CommitPhase) (out : Option Ticket) (at next : ℕ) (lead unit : List ℕ) (old mid new : Disk)
       → AreUnits (layout.is_unit cfg) cfg.max_frames (units ++ unit ∷ []) → at ≡ length (layout.growing cfg units)
       → lead ≡ layout.lead cfg units (length unit) → next ≡ at + length lead → Table layout cfg units acked records false phase out old
-      → WritesIn Essence at (length lead) old mid → Writes Essence at lead old mid → WritesIn Essence next (length unit) mid new → Writes Essence next unit mid new
+      → WritesIn Essence at (length lead) old mid → Writes Essence at lead old mid → WritesIn Essence next (length unit) mid new
+      → Writes Essence next unit mid new
       → Table layout cfg (units ++ unit ∷ []) acked records false phase out new
   published phase out at next lead unit old mid new are place is behind t torn wrote torn_next wrote_next =
       let first = lead_reads phase out at lead old mid place t wrote in
@@ -175,7 +177,8 @@ module _ {L : Type 0} (layout : Ghosts L) (laws : LaysOut layout) (cfg : Fields)
 
   -- Once the closed file stands there, its mark is on its way. A tail whose write fails leaves the table, as any write behind
   -- the file does.
-  pub tail_done : (out : Option Ticket) (mark : Mark) (held : Disk) → mark ≡ record { count = length units; length = length (layout.closed cfg units); closed = true }
+  pub tail_done : (out : Option Ticket) (mark : Mark) (held : Disk)
+      → mark ≡ record { count = length units; length = length (layout.closed cfg units); closed = true }
       → Table layout cfg units acked records false Idle out held → held.essence.reads ≡ layout.closed cfg units
       → Table layout cfg units acked records true (MarkOut mark) None held
   tail_done out mark held is t reads =

@@ -1,12 +1,10 @@
 -- The table of phases of a take that begins, and of one that is found (own).
-use Rattle.std.proofs.Common.{◌≡◌, ℕ, ◌+◌, ◌≤◌, ◌<◌, Bool, true, false, List, [], ◌∷◌, ◌++◌, length, take, drop, Option, None}
+use Rattle.std.proofs.Common.{◌≡◌, ℕ, ◌+◌, ◌≤◌, ◌<◌, Bool, true, false, List, [], ◌∷◌, ◌++◌, length, take, None}
 use Rattle.std.proofs.Common.{refl, sym, ap, subst, ◌∙◌, arith, append_assoc, append-nil, take_all, length-take-le, true≢false}
 use Rattle.std.proofs.lemmas.Option.{none-some}
 use Rattle.rec_bytes.specs.Configuration.{Fields, Spells, spelling}
-use Rattle.take_core.specs.declared.mark.Mark.{Mark}
 use Rattle.take_core.specs.declared.commit_phase.CommitPhase.TheVariants.{Idle}
 use Rattle.take_disk.specs.Held.{IsBefore, Areas, Disk, KeepsPlace, Leaves}
-use Rattle.take_layout.specs.Takes.{AreUnits}
 use Rattle.take_layout.specs.declared.layout.TakeLayout.{Ghosts}
 use Rattle.commit_sidecar.specs.Says.{head_of, opened, gate_place}
 use Rattle.commit_sidecar.specs.Recovers.{Recovers, IsSafe, file_of, mark_of}

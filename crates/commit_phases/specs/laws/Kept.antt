@@ -1,7 +1,6 @@
 -- What a phase asks to be kept stays so, and a settled phase differs from the one before in nothing else (own).
-use Rattle.std.proofs.Common.{◌≡◌, ℕ, ◌<◌, ◌≤◌, Bool, true, false, List, length, refl, sym, subst, ◌∙◌, arith, true≢false}
+use Rattle.std.proofs.Common.{◌≡◌, ℕ, ◌<◌, ◌≤◌, Bool, false, List, length, refl, sym, subst, ◌∙◌, true≢false}
 use Rattle.rec_bytes.specs.Configuration.{Fields}
-use Rattle.take_core.specs.declared.mark.Mark.{Mark}
 use Rattle.take_core.specs.declared.commit_phase.CommitPhase.{CommitPhase}
 use Rattle.take_core.specs.declared.commit_phase.CommitPhase.TheVariants.{Idle, MarkOut, Marked, NoteOut, Noted, GateOut, Opened}
 use Rattle.take_disk.specs.declared.area.Area.{Area}
@@ -10,9 +9,10 @@ use Rattle.take_disk.specs.Held.{Moment, IsBefore, Disk, joined}
 use Rattle.take_layout.specs.declared.layout.TakeLayout.{Ghosts}
 use Rattle.commit_sidecar.specs.Recovers.{file_of}
 use Rattle.commit_phases.specs.Layouts.{LaysOut}
-use Rattle.commit_phases.specs.Phases.{Due, EssenceIsWhole, CommitsAreWhole, IsBeside, IsKept, settled, behind_records, essence_to, commits_to, commits_reach, essence_then, commits_then}
+use Rattle.commit_phases.specs.Phases.{Due, EssenceIsWhole, CommitsAreWhole, IsBeside, IsKept, settled}
+use Rattle.commit_phases.specs.Phases.{behind_records, essence_to, commits_to, commits_reach, essence_then, commits_then}
 use Rattle.commit_phases.specs.Table.{length_to}
-use Rattle.commit_phases.specs.laws.Moments.{same_moment, later_moment, joined_first, joined_second, joined_least}
+use Rattle.commit_phases.specs.laws.Moments.{later_moment, joined_first, joined_second, joined_least}
 use Rattle.commit_phases.specs.laws.Records.{shorter_whole, due_shorter}
 
 -- the same moment, before a later one
@@ -26,11 +26,11 @@ pub kept_on : (acked_len records : ℕ) (phase : CommitPhase) (old new : Disk) (
     → ((place : ℕ) → place < commits_to records phase → IsBeside records phase place → new.commits.touched place ≡ old.commits.touched place)
     → (EssenceIsWhole phase → new.essence.altered ≡ old.essence.altered) → (CommitsAreWhole phase → new.commits.altered ≡ old.commits.altered)
     → IsBefore essence essence_new → IsBefore commits commits_new → IsKept acked_len records phase new essence_new commits_new
-kept_on acked_len records phase old new essence commits essence_new commits_new kept same_essence same_commits same_whole same_all essence_later commits_later = record {
-  essence = λ place l. moved _ _ _ _ (same_essence place l) (kept.essence place l) essence_later;
-  commits = λ place l b. moved _ _ _ _ (same_commits place l b) (kept.commits place l b) commits_later;
-  whole_essence = λ w. moved _ _ _ _ (same_whole w) (kept.whole_essence w) essence_later;
-  whole_commits = λ w. moved _ _ _ _ (same_all w) (kept.whole_commits w) commits_later;
+kept_on acked_len records phase old new essence commits essence_new commits_new kept same same_commits whole whole_commits later later_commits = record {
+  essence = λ place l. moved _ _ _ _ (same place l) (kept.essence place l) later;
+  commits = λ place l b. moved _ _ _ _ (same_commits place l b) (kept.commits place l b) later_commits;
+  whole_essence = λ w. moved _ _ _ _ (whole w) (kept.whole_essence w) later;
+  whole_commits = λ w. moved _ _ _ _ (whole_commits w) (kept.whole_commits w) later_commits;
 }
 
 -- the moments of a ticket, as more is kept

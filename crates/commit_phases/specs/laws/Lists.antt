@@ -1,6 +1,7 @@
 -- Lists that begin alike, and what a write leaves of them (own).
-use Rattle.std.proofs.Common.{◌≡◌, ℕ, zero, suc, ◌+◌, ◌≤◌, ◌<◌, List, [], ◌∷◌, ◌++◌, length, get_or, take, drop, refl, sym, ap, ◌∙◌, arith, append_assoc}
-use Rattle.std.proofs.lemmas.List.{ext_get_or, get_or-take, get_or-drop, take_at, drop_all, append-nil, length-take, length-drop, take-append-drop, length-append}
+use Rattle.std.proofs.Common.{◌≡◌, ℕ, zero, suc, ◌+◌, ◌≤◌, ◌<◌, List, [], ◌∷◌, ◌++◌, length, get_or, take, drop, refl, sym, ap, ◌∙◌, arith}
+use Rattle.std.proofs.lemmas.List.{ext_get_or, get_or-take, get_or-drop, take_at, drop_all}
+use Rattle.std.proofs.lemmas.List.{append-nil, length-take, length-drop, take-append-drop, length-append}
 use Rattle.rec_bytes.specs.Places.{with_bytes}
 
 -- so many places from one on that agree are the same bytes

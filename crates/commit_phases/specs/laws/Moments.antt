@@ -1,5 +1,5 @@
 -- Moments one after the other (own).
-use Rattle.std.proofs.Common.{◌≡◌, ℕ, ◌≤◌, max, sym, subst, arith}
+use Rattle.std.proofs.Common.{◌≡◌, subst, arith}
 use Rattle.take_disk.specs.Held.{Moment, IsBefore, joined}
 
 pub same_moment : (m : Moment) → IsBefore m m

@@ -1,5 +1,6 @@
 -- The open records of a commit file, and the mark that comes behind them (own).
-use Rattle.std.proofs.Common.{◌≡◌, ℕ, ◌+◌, ◌≤◌, Bool, true, false, List, [], ◌∷◌, ◌++◌, length, take, drop, take_all, take-take, take-append-drop, length-take, Option, Some, None}
+use Rattle.std.proofs.Common.{◌≡◌, ℕ, ◌≤◌, Bool, true, false, List, [], ◌∷◌, ◌++◌}
+use Rattle.std.proofs.Common.{length, take, drop, take_all, take-take, take-append-drop, length-take, Option, Some, None}
 use Rattle.std.proofs.Common.{refl, sym, ap, subst, ◌∙◌, arith, append_assoc, length-append}
 use Rattle.std.proofs.lemmas.List.Elements.{All-take}
 use Rattle.rec_bytes.specs.Configuration.{Fields, Spells, spelling}
@@ -7,12 +8,10 @@ use Rattle.take_core.specs.declared.mark.Mark.{Mark}
 use Rattle.take_core.specs.declared.commit_phase.CommitPhase.{CommitPhase}
 use Rattle.take_layout.specs.Takes.{AreUnits}
 use Rattle.take_layout.specs.declared.layout.TakeLayout.{Ghosts}
-use Rattle.commit_sidecar.specs.Notes.{note_of, Fits, Follow, Follows, IsLater, IsAfter, last_of}
+use Rattle.commit_sidecar.specs.Notes.{note_of, Follows, IsLater, IsAfter, last_of}
 use Rattle.commit_sidecar.specs.Says.{head_of, opened, gate_place, counting}
 use Rattle.commit_sidecar.specs.Recovers.{file_of, mark_of}
-use Rattle.commit_sidecar.specs.laws.Records.{length-head}
-use Rattle.commit_sidecar.specs.laws.Records.{opened-more, length-opened, follow-more, last-more}
-use Rattle.commit_sidecar.specs.laws.Records.{length-note}
+use Rattle.commit_sidecar.specs.laws.Records.{length-head, length-note, length-opened, opened-more, last-more}
 use Rattle.commit_sidecar.proofs.RangeLemmas.{ranged}
 use Rattle.commit_phases.specs.Layouts.{LaysOut}
 use Rattle.commit_phases.specs.Phases.{IsDue, commit_bytes, behind_records}

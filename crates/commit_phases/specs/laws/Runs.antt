@@ -1,5 +1,5 @@
 -- What crashes leave over any number of calls of a disk (own).
-use Rattle.std.proofs.Common.{◌≡◌, ◌⊎◌, inl, inr, ⊎_elim, ℕ, List, length, Option, Some, None, refl}
+use Rattle.std.proofs.Common.{◌≡◌, ◌⊎◌, inl, inr, ⊎_elim, length, Option, Some, None, refl}
 use Rattle.take_disk.specs.declared.area.Area.{Area}
 use Rattle.take_disk.specs.Held.{Moment, IsBefore, Areas, Disk, Leaves, IsPast, in_area}
 use Rattle.take_disk.specs.Calls.{IfTold, Steps, Elapses}

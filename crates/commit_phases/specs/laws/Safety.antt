@@ -1,6 +1,7 @@
 -- Whatever a crash leaves of a disk that keeps the table of phases is safe (own).
-use Rattle.std.proofs.Common.{◌≡◌, ◌≢◌, inl, inr, ℕ, ◌+◌, ◌*◌, ◌≤◌, ◌<◌, Bool, true, false, List, [], ◌∷◌, ◌++◌, length, get_or, take, drop, Option, None}
-use Rattle.std.proofs.Common.{refl, sym, ap, subst, ◌∙◌, arith, append_assoc, append-nil, length-append, take_all, take_at, take-take, take-append-drop, length-take, length-take-le, true≢false}
+use Rattle.std.proofs.Common.{◌≡◌, ◌≢◌, inl, inr, ℕ, ◌+◌, ◌≤◌, ◌<◌, Bool, true, false, List, [], ◌∷◌, ◌++◌, length, get_or, take, drop, Option, None}
+use Rattle.std.proofs.Common.{refl, sym, ap, subst, ◌∙◌, arith, append_assoc, append-nil}
+use Rattle.std.proofs.Common.{length-append, take_all, take_at, take-take, take-append-drop, length-take, length-take-le, true≢false}
 use Rattle.std.proofs.lemmas.List.{drop_at, drop_more, take-append-le}
 use Rattle.std.proofs.lemmas.Bool.{cases_eq}
 use Rattle.rec_bytes.specs.Configuration.{Fields, Spells, spelling}
@@ -19,7 +20,8 @@ use Rattle.commit_phases.specs.Layouts.{LaysOut}
 use Rattle.commit_phases.specs.Phases.{IsDue, commit_bytes}
 use Rattle.commit_phases.specs.Table.{Table, AllSafe, IsClosed, length_to}
 use Rattle.commit_phases.specs.laws.Lists.{piece, begins_with}
-use Rattle.commit_phases.specs.laws.Records.{front_of, front_long, note_long, behind_front, front_more, first_units, counts_more, begins_whole, begins_first, due_longer, due_follows}
+use Rattle.commit_phases.specs.laws.Records.{front_of, front_long, note_long, behind_front, front_more}
+use Rattle.commit_phases.specs.laws.Records.{first_units, counts_more, begins_whole, begins_first, due_longer, due_follows}
 
 -- the front that is kept stands in each image
 pub kept_front : (held : Held) (image : List ℕ) → IsImage held image → (n : ℕ) → n ≤ length held.reads
@@ -35,7 +37,8 @@ kept_begins held image is front rest reads kept =
     let long : length front ≤ length held.reads = omega (arith, ap (length {A = ℕ}) reads, length-append front rest) in
     begins_with image held.reads front rest (length front) (kept_front held image is (length front) long kept) reads refl
 
-module _ {L : Type 0} (layout : Ghosts L) (laws : LaysOut layout) (cfg : Fields) (units : List (List ℕ)) (are : AreUnits (layout.is_unit cfg) cfg.max_frames units) where
+module _ {L : Type 0} (layout : Ghosts L) (laws : LaysOut layout) (cfg : Fields) (units : List (List ℕ))
+    (are : AreUnits (layout.is_unit cfg) cfg.max_frames units) where
   -- what commits say and an essence begins with, put together
   recovered : (image : Areas) (marks : List Mark) (mark : Mark) → mark_of layout cfg marks ≡ mark → Says image.commits cfg marks → mark.count ≤ length units
       → mark.length ≡ length (file_of layout mark.closed cfg (take mark.count units)) → (more : List ℕ)
@@ -82,7 +85,8 @@ module _ {L : Type 0} (layout : Ghosts L) (laws : LaysOut layout) (cfg : Fields)
       )
 
   module _ (acked records : ℕ) (tail : Bool) (few : acked ≤ length units) (marks : List Mark) (spells : Spells (spelling cfg) cfg) (follow : Follow None marks)
-      (number : length marks ≡ records) (counts : mark_of layout cfg marks ≡ record { count = acked; length = length_to layout cfg units acked; closed = false }) where
+      (number : length marks ≡ records)
+      (counts : mark_of layout cfg marks ≡ record { count = acked; length = length_to layout cfg units acked; closed = false }) where
     -- a gate that isn't 1: the acknowledged units count
     shut_safe : (image : Areas) (gate : ℕ) → gate ≢ 1 → (behind : List ℕ) → image.commits ≡ front_of cfg marks ++ (gate ∷ behind)
         → (more : List ℕ) → image.essence ≡ layout.growing cfg (take acked units) ++ more → IsSafe layout cfg units acked image
@@ -91,7 +95,14 @@ module _ {L : Type 0} (layout : Ghosts L) (laws : LaysOut layout) (cfg : Fields)
       at_least = omega arith;
       at_most = few;
       recovers = recovered image marks _ counts
-          (record { is_config = spells; follow = follow; gate = gate; shut = shut; rest = behind; is = commits ∙ append_assoc (head_of cfg) (opened marks) (gate ∷ behind) })
+          (record {
+            is_config = spells;
+            follow = follow;
+            gate = gate;
+            shut = shut;
+            rest = behind;
+            is = commits ∙ append_assoc (head_of cfg) (opened marks) (gate ∷ behind);
+          })
           few refl more begins (λ e. absurd (true≢false (sym e)));
     }
 
@@ -106,7 +117,8 @@ module _ {L : Type 0} (layout : Ghosts L) (laws : LaysOut layout) (cfg : Fields)
         let whole : held.commits.reads ≡ (front ++ (gate ∷ [])) ++ behind = commits ∙ sym (append_assoc front (gate ∷ []) behind) in
         let long : length (front ++ (gate ∷ [])) ≡ gate_place records + 1 =
         omega (arith, front_long cfg marks records spells number, length-append front (gate ∷ [])) in
-        let same = kept_begins held.commits image.commits leaves.commits (front ++ (gate ∷ [])) behind whole (λ place l. kept_commits place (omega (arith, long, l))) in
+        let same =
+        kept_begins held.commits image.commits leaves.commits (front ++ (gate ∷ [])) behind whole (λ place l. kept_commits place (omega (arith, long, l))) in
         let more : List ℕ = drop (length (front ++ (gate ∷ []))) image.commits in
         shut_safe image gate shut more (same ∙ append_assoc front (gate ∷ []) more) begins.0 begins.1
 
@@ -148,7 +160,9 @@ module _ {L : Type 0} (layout : Ghosts L) (laws : LaysOut layout) (cfg : Fields)
         let gated : drop (length front) c ≡ g ∷ (note_of mark ++ (0 ∷ more)) =
         ap (λ (n : ℕ). drop n c) long ∙ drop_more c at 0 (omega (arith, far)) ∙ ap (λ (xs : List ℕ). g ∷ xs) back in
         let all : c ≡ front ++ (g ∷ (note_of mark ++ (0 ∷ more))) = same ∙ ap (λ (xs : List ℕ). front ++ xs) gated in
-        let begins = mark_begins held.essence image.essence leaves.essence tail rest reads ends mark.closed mark.count mark.length due.ended due.all due.length_is kept whole in
+        let begins =
+        mark_begins held.essence image.essence leaves.essence tail rest reads ends
+        mark.closed mark.count mark.length due.ended due.all due.length_is kept whole in
         let first = begins_first layout laws cfg mark.closed units acked mark.count due.at_least in
         elim (cases_eq g 1) [
           | inl open_gate ↦ record {
@@ -180,13 +194,15 @@ due_kept : {L : Type 0} (layout : Ghosts L) → LaysOut layout → (cfg : Fields
 due_kept layout laws cfg units acked tail mark due held kept place l = kept place (omega (arith, l, due_longer layout laws cfg units acked tail mark due))
 
 -- what stands behind an open gate
-pub opened_behind : (cfg : Fields) (marks : List Mark) (gate : ℕ) (mark : Mark) (rest reads : List ℕ) → reads ≡ commit_bytes cfg marks gate (Opened mark) ++ rest
+pub opened_behind : (cfg : Fields) (marks : List Mark) (gate : ℕ) (mark : Mark) (rest reads : List ℕ)
+    → reads ≡ commit_bytes cfg marks gate (Opened mark) ++ rest
     → reads ≡ front_of cfg marks ++ (1 ∷ (note_of mark ++ (0 ∷ rest)))
 opened_behind cfg marks gate mark rest reads is =
     is ∙ behind_front cfg marks gate (Opened mark) rest ∙ ap (λ (xs : List ℕ). front_of cfg marks ++ (1 ∷ xs)) (append_assoc (note_of mark) (0 ∷ []) rest)
 
 -- every crash that the table lets happen is safe
-pub table_safe : {L : Type 0} (layout : Ghosts L) → LaysOut layout → (cfg : Fields) (units : List (List ℕ)) (acked records : ℕ) (tail : Bool) (phase : CommitPhase)
+pub table_safe : {L : Type 0} (layout : Ghosts L) → LaysOut layout
+    → (cfg : Fields) (units : List (List ℕ)) (acked records : ℕ) (tail : Bool) (phase : CommitPhase)
     (out : Option Ticket) (held : Disk) → Table layout cfg units acked records tail phase out held → AllSafe layout cfg units acked held
 table_safe layout laws cfg units acked records tail Idle out held t image leaves =
     before_safe layout laws cfg units t.are_units acked records tail t.few t.marks t.is_config t.follow t.number t.counts held image leaves
@@ -220,10 +236,12 @@ table_safe layout laws cfg units acked records tail (Opened mark) out held t ima
     (opened_behind cfg t.marks t.gate mark t.commits_rest held.commits.reads t.commits) (λ place l other. t.kept.commits place l tt)
 
 -- a closed take has one image, and is recovered to all of its units
-pub closed_recovers : {L : Type 0} (layout : Ghosts L) (cfg : Fields) (units : List (List ℕ)) (records : ℕ) (held : Disk) → IsClosed layout cfg units records held
+pub closed_recovers : {L : Type 0} (layout : Ghosts L) (cfg : Fields) (units : List (List ℕ)) (records : ℕ) (held : Disk)
+    → IsClosed layout cfg units records held
     → (image : Areas) → Leaves held image → Recovers layout cfg units image
 closed_recovers layout cfg units records held c image leaves =
-    let essence : image.essence ≡ layout.closed cfg units ++ [] = leaves.essence.whole c.essence_kept ∙ c.essence ∙ sym (append-nil (layout.closed cfg units)) in
+    let essence : image.essence ≡ layout.closed cfg units ++ [] =
+    leaves.essence.whole c.essence_kept ∙ c.essence ∙ sym (append-nil (layout.closed cfg units)) in
     record {
       marks = c.marks;
       says = subst (λ (xs : List ℕ). Says xs cfg c.marks) (sym (leaves.commits.whole c.commits_kept)) c.says;
@@ -246,7 +264,8 @@ closed_safe layout cfg units acked records held few c image leaves = record {
 }
 
 -- what is safe of more units, of which fewer were acknowledged, too
-pub safe_wider : {L : Type 0} (layout : Ghosts L) (cfg : Fields) (units : List (List ℕ)) (count acked fewer : ℕ) (image : Areas) → count ≤ length units → fewer ≤ acked
+pub safe_wider : {L : Type 0} (layout : Ghosts L) (cfg : Fields) (units : List (List ℕ)) (count acked fewer : ℕ) (image : Areas) → count ≤ length units
+    → fewer ≤ acked
     → IsSafe layout cfg (take count units) acked image → IsSafe layout cfg units fewer image
 safe_wider layout cfg units count acked fewer image few less safe =
     let most : safe.count ≤ count = omega (arith, safe.at_most, length-take count units) in

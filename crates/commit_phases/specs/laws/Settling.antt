@@ -2,7 +2,6 @@
 use Rattle.std.proofs.Common.{◌≡◌, ℕ, ◌<◌, Bool, List, ◌++◌, length, get_or, refl, sym, ap, subst, ◌∙◌, Option, Some, None}
 use Rattle.std.proofs.lemmas.Option.{none-some, same_Some}
 use Rattle.rec_bytes.specs.Configuration.{Fields}
-use Rattle.take_core.specs.declared.mark.Mark.{Mark}
 use Rattle.take_core.specs.declared.commit_phase.CommitPhase.{CommitPhase}
 use Rattle.take_core.specs.declared.commit_phase.CommitPhase.TheVariants.{Idle, MarkOut, Marked, NoteOut, Noted, GateOut, Opened}
 use Rattle.take_disk.specs.declared.area.Area.{Area}
@@ -183,7 +182,8 @@ image_back moment old new image step is =
       whole = λ kept. is.whole (moved _ _ _ _ step.altered kept later) ∙ step.reads;
     }
 
-pub settled_leaves : (area : Area) (moment : Moment) (old new : Disk) (image : Areas) → InArea area (Settled moment) old new → Leaves new image → Leaves old image
+pub settled_leaves : (area : Area) (moment : Moment) (old new : Disk) (image : Areas) → InArea area (Settled moment) old new → Leaves new image
+    → Leaves old image
 settled_leaves Essence moment old new image step leaves = record {
   essence = image_back moment old.essence new.essence image.essence step.changed leaves.essence;
   commits = let same : new.commits ≡ old.commits = step.same in subst (λ (h : Held). IsImage h image.commits) same leaves.commits;

@@ -41,14 +41,16 @@ both (Some old) None step other s o = absurd s
 both (Some old) (Some new) step other s o = (s, o)
 
 -- a fact of what was told before, with a step
-pub with_old : {T : Type 0} (x y : Option T) (P : T → Type 0) (step : T → T → Type 0) → IfTold x P → Steps x y step → Steps x y (λ old new. P old × step old new)
+pub with_old : {T : Type 0} (x y : Option T) (P : T → Type 0) (step : T → T → Type 0) → IfTold x P → Steps x y step
+    → Steps x y (λ old new. P old × step old new)
 with_old None None P step p s = tt
 with_old None (Some new) P step p s = absurd s
 with_old (Some old) None P step p s = absurd s
 with_old (Some old) (Some new) P step p s = (p, s)
 
 -- and of what is told now
-pub with_new : {T : Type 0} (x y : Option T) (P : T → Type 0) (step : T → T → Type 0) → IfTold y P → Steps x y step → Steps x y (λ old new. step old new × P new)
+pub with_new : {T : Type 0} (x y : Option T) (P : T → Type 0) (step : T → T → Type 0) → IfTold y P → Steps x y step
+    → Steps x y (λ old new. step old new × P new)
 with_new None None P step p s = tt
 with_new None (Some new) P step p s = absurd s
 with_new (Some old) None P step p s = absurd s
