@@ -1,0 +1,5 @@
+pub mod ByteLemmas
+pub mod EndLemmas
+pub mod FrontLemmas
+pub mod LawLemmas
+pub mod LookLemmas

@@ -1,0 +1,5 @@
+pub mod Essences
+pub mod Rests
+pub mod Walks
+pub mod inner
+pub mod laws
