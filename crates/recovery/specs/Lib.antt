@@ -1,0 +1,4 @@
+pub mod Causes
+pub mod Crashes
+pub mod Recoveries
+pub mod inner
