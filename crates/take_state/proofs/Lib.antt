@@ -1,0 +1,10 @@
+pub mod HistoryLemmas
+pub mod EventLemmas
+pub mod PublishLemmas
+pub mod TakeLemmas
+pub mod BarrierLemmas
+pub mod CommitLemmas
+pub mod CrashLemmas
+pub mod WriteLemmas
+pub mod StartLemmas
+pub mod ReadLemmas
