@@ -16,18 +16,23 @@ use Rattle.raw_feed.specs.Feeds.{EndsInHead}
 use Rattle.raw_feed.specs.Reading.{IfTold}
 use Rattle.run_parts.specs.Causes.{Counts, IsReadAnswer, HasDeviceCauses, HasFeedCauses}
 use Rattle.run_parts.specs.Statuses.{answer, feed_answer, ending_answer, memory_answer, sink_answer}
-use Rattle.take_disk.specs.Calls.{IfTold as IfDiskTold}
+use Rattle.recovery.specs.Recoveries.{Refuses, ReadsAsBefore, as_read}
+use Rattle.recovery.specs.declared.answer.RecoverFault.TheVariants as recovery
+use Rattle.take_disk.specs.Calls.{IfTold as IfDiskTold, Steps}
 use Rattle.take_disk.specs.Held.{Disk}
+use Rattle.take_disk.specs.declared.disk.TakeDisk.{Ghosts as DiskGhosts}
+use Rattle.take_layout.specs.declared.layout.TakeLayout.{Ghosts}
 use Rattle.take_commands.specs.Causes.{HasTakeCauses}
 use Rattle.take_commands.specs.Checks.{Checks}
+use Rattle.take_commands.specs.Recovers.{RunsRecovery}
 use Rattle.take_commands.specs.Shows.{Shows}
 use Rattle.take_commands.specs.Views.{Devices, Views, ViewsBytes}
 use Rattle.ingest_run.specs.declared.words.Command.{Command}
-use Rattle.ingest_run.specs.declared.words.Command.TheVariants.{Wrap, Encode, Check, Frame}
+use Rattle.ingest_run.specs.declared.words.Command.TheVariants.{Wrap, Encode, Recover, Check, Frame}
 use Rattle.ingest_run.specs.declared.words.WordsFault.{WordsFault}
 use Rattle.ingest_run.specs.declared.words.WordsFault.TheVariants.{Memory as NoMemory, Faulty}
 use Rattle.ingest_run.specs.Causes.{CausesFor, HasCauses, HasPictureCauses}
-use Rattle.ingest_run.specs.Commands.{Around, RunsFor, RunsCommand}
+use Rattle.ingest_run.specs.Commands.{Around, LeavesFor, RunsFor, RunsCommand}
 use Rattle.ingest_run.specs.Programs.{fault_answer}
 use Rattle.ingest_run.specs.Paces.{IsPassedOn, IsEncoded, KeepsPace}
 use Rattle.ingest_run.specs.Runs.{Wraps, Encodes, Outside, RunsOver, Runs}
@@ -37,11 +42,11 @@ use Rattle.ingest_run.proofs.UnitLemmas.{unit_code}
 use Rattle.ingest_run.proofs.RunLemmas.{FeedsAreOne, paced-head}
 
 -- the command that the words name did what it does
-pub runs_as : {S D W : Type 0} (closed growing : Fields → List (List ℕ) → List ℕ) (words : List Text) (before now : Around S D W) (status : Status)
-    (command : Command) → command_of words ≡ Some command → RunsFor closed growing (Some command) before now status
-    → RunsCommand closed growing words before now status
-runs_as closed growing words before now status command is h =
-    subst (λ (c : Option Command). RunsFor closed growing c before now status) (sym is) h
+pub runs_as : {L S D W : Type 0} (layout : Ghosts L) (words : List Text) (before now : Around S D W) (status : Status)
+    (command : Command) → command_of words ≡ Some command → RunsFor layout (Some command) before now status
+    → RunsCommand layout words before now status
+runs_as layout words before now status command is h =
+    subst (λ (c : Option Command). RunsFor layout c before now status) (sym is) h
 
 -- no byte was given
 untouched : (before : Told) → Some before ≡ Some (after 0 before)
@@ -88,7 +93,17 @@ run_memory kind Becomes Said growing here one said = on here.told refl
     on None tells = tells
     on (Some t) tells = memory-over kind Becomes Said growing t here one said tells
 
--- memory was wanted before a command over a take did anything
+-- what holds of all holds where one is told
+told_any : {T : Type 0} (told : Option T) (P : T → Type 0) → ((value : T) → P value) → IfDiskTold told P
+told_any None P each = tt
+told_any (Some value) P each = each value
+
+-- what is told stays
+steps_same : {T : Type 0} (told : Option T) (P : T → T → Type 0) → ((value : T) → P value value) → Steps told told P
+steps_same None P each = tt
+steps_same (Some value) P each = each value
+
+-- memory was wanted before a command that looks at a take did anything
 view_memory : (Said : List ℕ → List ℕ → Status → Type 0) (here : Devices) → Views Said here here memory_answer
 view_memory Said here = on here.told
   where
@@ -102,22 +117,50 @@ view_memory Said here = on here.told
       nothing = λ none. refl;
     }
 
--- no device was touched, and the words give no command, or memory for them was wanted
-fault_as : {S D W : Type 0} (closed growing : Fields → List (List ℕ) → List ℕ) (here : Around S D W) (command : Option Command) (reason : WordsFault)
-    → FeedsAreOne → (reason ≡ Faulty → command ≡ None) → RunsFor closed growing command here here (fault_answer reason)
-fault_as closed growing here None Faulty one refused = (refl, inl refl)
-fault_as closed growing here None NoMemory one refused = (refl, inr refl)
-fault_as closed growing here (Some command) Faulty one refused = absurd (let none = refused refl in cc)
-fault_as closed growing here (Some Wrap) NoMemory one refused =
-    (refl, run_memory Units IsPassedOn (Wraps closed) growing here.run one (inr (record { ending = Broken (FeedCut 0); feed = no_head Units; nothing = refl; answered = refl })))
-fault_as closed growing here (Some Encode) NoMemory one refused =
-    (refl, run_memory Pictures IsEncoded (Encodes closed) growing here.run one (inr (record { ending = Broken (FeedCut 0); feed = no_head Pictures; nothing = refl; answered = refl })))
-fault_as closed growing here (Some Check) NoMemory one refused = (refl, view_memory Checks here.view)
-fault_as closed growing here (Some (Frame number)) NoMemory one refused = (refl, view_memory (Shows number) here.view)
+-- the same of the command that recovers one
+recovery_memory : {L : Type 0} (layout : Ghosts L) (here : Devices) → RunsRecovery layout here here memory_answer
+recovery_memory layout here = inr (record {
+  fault = recovery.Memory;
+  refused = told_any here.told (λ disk. Refuses layout recovery.Memory (as_read disk)) (λ disk. tt);
+  unchanged = steps_same here.told (ReadsAsBefore recovery.Memory) (λ disk. refl);
+  nothing = refl;
+  answered = refl;
+})
 
-pub runs_fault : {S D W : Type 0} (closed growing : Fields → List (List ℕ) → List ℕ) (words : List Text) (here : Around S D W) (reason : WordsFault) → FeedsAreOne
-    → (reason ≡ Faulty → command_of words ≡ None) → RunsCommand closed growing words here here (fault_answer reason)
-runs_fault closed growing words here reason one refused = fault_as closed growing here (command_of words) reason one refused
+-- what a command leaves that touches nothing
+pub leaves_same : {L D : Type 0} (layout : Ghosts L) (device : DiskGhosts D) (command : Option Command) (disk : D) → LeavesFor layout device command disk disk
+leaves_same layout device None disk = record { same = refl; lengths = λ area. refl }
+leaves_same layout device (Some Wrap) disk = record { same = refl; lengths = λ area. refl }
+leaves_same layout device (Some Encode) disk = record { same = refl; lengths = λ area. refl }
+leaves_same layout device (Some Recover) disk = (
+  told_any (device.told disk) _ (λ held cfg units acked safe. told_any (device.told disk) _ (λ again moment image before left. inl left)),
+  told_any (device.told disk) _ (λ held cfg units kept recovers. told_any (device.told disk) _ (λ again moment image before left. inl left)),
+)
+leaves_same layout device (Some Check) disk = record { same = refl; lengths = λ area. refl }
+leaves_same layout device (Some (Frame number)) disk = record { same = refl; lengths = λ area. refl }
+
+-- what the command leaves that the words name
+pub leaves_as : {L D : Type 0} (layout : Ghosts L) (device : DiskGhosts D) (words : List Text) (old new : D) (command : Command)
+    → command_of words ≡ Some command → LeavesFor layout device (Some command) old new → LeavesFor layout device (command_of words) old new
+leaves_as layout device words old new command is h = subst (λ (c : Option Command). LeavesFor layout device c old new) (sym is) h
+
+-- no device was touched, and the words give no command, or memory for them was wanted
+fault_as : {L S D W : Type 0} (layout : Ghosts L) (here : Around S D W) (command : Option Command) (reason : WordsFault)
+    → FeedsAreOne → (reason ≡ Faulty → command ≡ None) → RunsFor layout command here here (fault_answer reason)
+fault_as layout here None Faulty one refused = (refl, inl refl)
+fault_as layout here None NoMemory one refused = (refl, inr refl)
+fault_as layout here (Some command) Faulty one refused = absurd (let none = refused refl in cc)
+fault_as layout here (Some Wrap) NoMemory one refused =
+    (refl, run_memory Units IsPassedOn (Wraps layout.closed) layout.growing here.run one (inr (record { ending = Broken (FeedCut 0); feed = no_head Units; nothing = refl; answered = refl })))
+fault_as layout here (Some Encode) NoMemory one refused =
+    (refl, run_memory Pictures IsEncoded (Encodes layout.closed) layout.growing here.run one (inr (record { ending = Broken (FeedCut 0); feed = no_head Pictures; nothing = refl; answered = refl })))
+fault_as layout here (Some Recover) NoMemory one refused = (refl, recovery_memory layout here.view)
+fault_as layout here (Some Check) NoMemory one refused = (refl, view_memory Checks here.view)
+fault_as layout here (Some (Frame number)) NoMemory one refused = (refl, view_memory (Shows number) here.view)
+
+pub runs_fault : {L S D W : Type 0} (layout : Ghosts L) (words : List Text) (here : Around S D W) (reason : WordsFault) → FeedsAreOne
+    → (reason ≡ Faulty → command_of words ≡ None) → RunsCommand layout words here here (fault_answer reason)
+runs_fault layout words here reason one refused = fault_as layout here (command_of words) reason one refused
 
 -- the code of an answer for a feed isn't that of faulty words
 no_words : (fault : FeedFault) → (feed_answer fault).code ≢ 2
@@ -180,6 +223,10 @@ pub causes_encode : {S D W : Type 0} (words : List Text) (before now : Around S 
 causes_encode words before now status is c =
     causes_as words before now status Encode is (no_words_in now.run.counts.sink status (⊎_elim (λ a. inl (inl a)) (λ a. inr a) c.answered)) c
 
+pub causes_recover : {S D W : Type 0} (words : List Text) (before now : Around S D W) (status : Status) → command_of words ≡ Some Recover
+    → HasTakeCauses before.view now.view status → HasCauses words before now status
+causes_recover words before now status is c = causes_as words before now status Recover is (no_words_of status c.answered) c
+
 pub causes_check : {S D W : Type 0} (words : List Text) (before now : Around S D W) (status : Status) → command_of words ≡ Some Check
     → HasTakeCauses before.view now.view status → HasCauses words before now status
 causes_check words before now status is c = causes_as words before now status Check is (no_words_of status c.answered) c
@@ -210,6 +257,7 @@ cause_as here None NoMemory refused = (record { run = refl; disk = refl }, inr r
 cause_as here (Some command) Faulty refused = absurd (let none = refused refl in cc)
 cause_as here (Some Wrap) NoMemory refused = record { answered = inl (inl (0, Broken Memory, tt, refl)); devices = memory_devices here.run.counts }
 cause_as here (Some Encode) NoMemory refused = record { answered = inl (0, Broken Memory, tt, refl); devices = memory_devices here.run.counts }
+cause_as here (Some Recover) NoMemory refused = memory_take here.view
 cause_as here (Some Check) NoMemory refused = memory_take here.view
 cause_as here (Some (Frame number)) NoMemory refused = memory_take here.view
 

@@ -2,15 +2,17 @@
 use Rattle.std.proofs.Common.{◌≡◌, ℕ, List, [], Option, Some, None, Ok, Err, refl, sym, inl, inr}
 use Rattle.std.proofs.lemmas.List.{append-nil}
 use Rattle.clap.specs.Walk.{Text}
-use Rattle.rec_bytes.specs.Configuration.{Fields}
 use Rattle.rec_bytes.specs.Faults.{HasCause}
 use Rattle.rec_bytes.specs.declared.status.Status.{Status}
 use Rattle.rec_bytes.specs.declared.status.Failed.{Failed}
 use Rattle.raw_feed.specs.Written.{Writes}
 use Rattle.run_parts.specs.Statuses.{answer, sink_answer}
-use Rattle.ingest_run.specs.Commands.{Around}
+use Rattle.take_disk.specs.declared.disk.TakeDisk.{Ghosts as DiskGhosts}
+use Rattle.take_layout.specs.declared.layout.TakeLayout.{Ghosts}
+use Rattle.ingest_run.specs.Commands.{Around, LeavesFor}
 use Rattle.ingest_run.specs.Messages.{taken}
-use Rattle.ingest_run.specs.Programs.{AnswersCommand, AnswersHelp, AnswersFor, WritesHelp}
+use Rattle.ingest_run.specs.Words.{command_of}
+use Rattle.ingest_run.specs.Programs.{AnswersCommand, AnswersHelp, AnswersFor, WritesHelp, runs_for}
 use Rattle.ingest_run.proofs.GainLemmas.{Gains-first, Gains-first_front}
 
 -- the text of help was written
@@ -32,10 +34,19 @@ help_failed text old new faults faults_now e w cause =
     record { written = piece.0; missing = piece.1; front = piece.2; gains = piece.3; ends = inr (refl, cause.failed, piece.4) }
 
 -- help goes before any command
-pub answers_help : {S D W : Type 0} (closed growing : Fields → List (List ℕ) → List ℕ) (help : Option (List ℕ)) (text : List ℕ) (words : List Text) (before now : Around S D W)
-    (status : Status) → help ≡ Some text → AnswersHelp text before now status → AnswersFor closed growing help words before now status
-answers_help closed growing help text words before now status is h = rw is h
+pub answers_help : {L S D W : Type 0} (layout : Ghosts L) (help : Option (List ℕ)) (text : List ℕ) (words : List Text) (before now : Around S D W)
+    (status : Status) → help ≡ Some text → AnswersHelp text before now status → AnswersFor layout help words before now status
+answers_help layout help text words before now status is h = rw is h
 
-pub answers_command : {S D W : Type 0} (closed growing : Fields → List (List ℕ) → List ℕ) (help : Option (List ℕ)) (words : List Text) (before now : Around S D W)
-    (status : Status) → help ≡ None → AnswersCommand closed growing words before now status → AnswersFor closed growing help words before now status
-answers_command closed growing help words before now status is h = rw is h
+pub answers_command : {L S D W : Type 0} (layout : Ghosts L) (help : Option (List ℕ)) (words : List Text) (before now : Around S D W)
+    (status : Status) → help ≡ None → AnswersCommand layout words before now status → AnswersFor layout help words before now status
+answers_command layout help words before now status is h = rw is h
+
+-- and what the disk is left as
+pub leaves_help : {L D : Type 0} (layout : Ghosts L) (device : DiskGhosts D) (help : Option (List ℕ)) (text : List ℕ) (words : List Text) (disk : D)
+    → help ≡ Some text → LeavesFor layout device (runs_for help words) disk disk
+leaves_help layout device help text words disk is = rw is (record { same = refl; lengths = λ area. refl })
+
+pub leaves_command : {L D : Type 0} (layout : Ghosts L) (device : DiskGhosts D) (help : Option (List ℕ)) (words : List Text) (old new : D)
+    → help ≡ None → LeavesFor layout device (command_of words) old new → LeavesFor layout device (runs_for help words) old new
+leaves_command layout device help words old new is h = rw is h

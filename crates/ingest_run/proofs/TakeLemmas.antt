@@ -1,12 +1,12 @@
--- The answer where a command that looks at a take ends before it has written all.
-use Rattle.std.proofs.Common.{◌≡◌, ◌≢◌, ℕ, Err, refl, sym, ◌∙◌, arith}
+-- The answer where a command over a take ends before it has written all.
+use Rattle.std.proofs.Common.{◌≡◌, ◌≢◌, ℕ, Err, refl, arith}
 use Rattle.frame_codec.specs.declared.fault.DecodeFault.{DecodeFault}
 use Rattle.frame_codec.specs.declared.fault.DecodeFault.TheVariants.{Memory, Frame, OneMatrix, Slice}
 use Rattle.frame_syntax.specs.declared.fault.FrameFault.{FrameFault}
 use Rattle.frame_syntax.specs.declared.fault.FrameFault.TheVariants.{FrameShort, NotIcpf, SizeWord, HeadSize, Version, Chroma, Interlace, Dimensions, Alpha, PictureSize, SliceTable}
 use Rattle.take_commands.specs.Answers.{decode_answer, frame_answer, take_answer}
 use Rattle.take_commands.specs.declared.fault.TakeFault.{TakeFault}
-use Rattle.take_commands.specs.declared.fault.TakeFault.TheVariants.{Memory as NoMemory, Disk, Sink, NotOp1a, Past, Refused}
+use Rattle.take_commands.specs.declared.fault.TakeFault.TheVariants.{Memory as NoMemory, Disk, Sink, NotOp1a, Past, Refused, NoTake, Damaged}
 
 -- its code is 8 where the bytes are no frame
 frame_code : (fault : FrameFault) → (frame_answer fault).code ≡ 8
@@ -37,3 +37,5 @@ take_code (Sink count) e = omega arith
 take_code (NotOp1a clause at) e = omega arith
 take_code (Past count number) e = omega arith
 take_code (Refused number fault) e = decode_code number fault e
+take_code (NoTake at area) e = omega arith
+take_code (Damaged at area) e = omega arith

@@ -4,9 +4,9 @@ use Rattle.std.specs.Str.{bytes_eq}
 use Rattle.std.proofs.lemmas.Bool.{ne_eqb}
 use Rattle.std.proofs.lemmas.Slice.Eq.{bytes_eq-Decides}
 use Rattle.clap.specs.Words.{App, Kinds, fault_of}
-use Rattle.ingest_run.specs.Words.{check, command_of, encode, frame, is_call, number_of, texts, wrap}
+use Rattle.ingest_run.specs.Words.{check, command_of, encode, frame, is_call, number_of, recover, texts, wrap}
 use Rattle.ingest_run.specs.declared.words.Command.{Command}
-use Rattle.ingest_run.specs.declared.words.Command.TheVariants.{Wrap, Encode, Check, Frame}
+use Rattle.ingest_run.specs.declared.words.Command.TheVariants.{Wrap, Encode, Recover, Check, Frame}
 use Rattle.ingest_run.specs.declared.words.WordsFault.{WordsFault}
 use Rattle.ingest_run.proofs.OptionLemmas.{differ}
 
@@ -62,79 +62,112 @@ is_call_named app words first name at named unlike = is_call_other app words fir
 
 -- words that no command takes are none
 pub none_taken : {Z : Type 0} (words : List (String Z)) → is_call wrap (texts words) ≡ false → is_call encode (texts words) ≡ false
-    → is_call check (texts words) ≡ false → is_call frame (texts words) ≡ false → command_of (texts words) ≡ None
-none_taken words w e c f = rw (w, e, c, f) refl
+    → is_call recover (texts words) ≡ false → is_call check (texts words) ≡ false → is_call frame (texts words) ≡ false → command_of (texts words) ≡ None
+none_taken words w e r c f = rw (w, e, r, c, f) refl
 
 -- there are no words
 pub none_given : {Z : Type 0} (words : List (String Z)) → slice_get words 0 ≡ None → command_of (texts words) ≡ None
 none_given words none =
-    none_taken words (is_call_none wrap words none) (is_call_none encode words none) (is_call_none check words none) (is_call_none frame words none)
+    none_taken words (is_call_none wrap words none) (is_call_none encode words none) (is_call_none recover words none) (is_call_none check words none)
+    (is_call_none frame words none)
 
 -- the first word names no command
 pub none_named : {Z : Type 0} (words : List (String Z)) (first : String Z) → slice_get words 0 ≡ Some first → string_bytes first ≢ codes "wrap"
-    → string_bytes first ≢ codes "encode" → string_bytes first ≢ codes "check" → string_bytes first ≢ codes "frame" → command_of (texts words) ≡ None
-none_named words first at w e c f =
-    none_taken words (is_call_other wrap words first at w) (is_call_other encode words first at e) (is_call_other check words first at c)
-    (is_call_other frame words first at f)
+    → string_bytes first ≢ codes "encode" → string_bytes first ≢ codes "recover" → string_bytes first ≢ codes "check" → string_bytes first ≢ codes "frame"
+    → command_of (texts words) ≡ None
+none_named words first at w e r c f =
+    none_taken words (is_call_other wrap words first at w) (is_call_other encode words first at e) (is_call_other recover words first at r)
+    (is_call_other check words first at c) (is_call_other frame words first at f)
 
 -- words that begin with the name of `wrap`, and that it refuses, are none
 pub wrap_refused : {Z : Type 0} (words : List (String Z)) (first : String Z) → slice_get words 0 ≡ Some first → string_bytes first ≡ codes "wrap"
     → fault_of wrap (texts words) ≢ [] → command_of (texts words) ≡ None
 wrap_refused words first at named faulty =
     none_taken words (is_call_refused wrap words faulty) (is_call_named encode words first (codes "wrap") at named refl)
-    (is_call_named check words first (codes "wrap") at named refl) (is_call_named frame words first (codes "wrap") at named refl)
+    (is_call_named recover words first (codes "wrap") at named refl) (is_call_named check words first (codes "wrap") at named refl)
+    (is_call_named frame words first (codes "wrap") at named refl)
 
 -- the same of `encode`
 pub encode_refused : {Z : Type 0} (words : List (String Z)) (first : String Z) → slice_get words 0 ≡ Some first → string_bytes first ≡ codes "encode"
     → fault_of encode (texts words) ≢ [] → command_of (texts words) ≡ None
 encode_refused words first at named faulty =
     none_taken words (is_call_named wrap words first (codes "encode") at named refl) (is_call_refused encode words faulty)
-    (is_call_named check words first (codes "encode") at named refl) (is_call_named frame words first (codes "encode") at named refl)
+    (is_call_named recover words first (codes "encode") at named refl) (is_call_named check words first (codes "encode") at named refl)
+    (is_call_named frame words first (codes "encode") at named refl)
+
+-- the same of `recover`
+pub recover_refused : {Z : Type 0} (words : List (String Z)) (first : String Z) → slice_get words 0 ≡ Some first → string_bytes first ≡ codes "recover"
+    → fault_of recover (texts words) ≢ [] → command_of (texts words) ≡ None
+recover_refused words first at named faulty =
+    none_taken words (is_call_named wrap words first (codes "recover") at named refl) (is_call_named encode words first (codes "recover") at named refl)
+    (is_call_refused recover words faulty) (is_call_named check words first (codes "recover") at named refl)
+    (is_call_named frame words first (codes "recover") at named refl)
 
 -- the same of `check`
 pub check_refused : {Z : Type 0} (words : List (String Z)) (first : String Z) → slice_get words 0 ≡ Some first → string_bytes first ≡ codes "check"
     → fault_of check (texts words) ≢ [] → command_of (texts words) ≡ None
 check_refused words first at named faulty =
     none_taken words (is_call_named wrap words first (codes "check") at named refl) (is_call_named encode words first (codes "check") at named refl)
-    (is_call_refused check words faulty) (is_call_named frame words first (codes "check") at named refl)
+    (is_call_named recover words first (codes "check") at named refl) (is_call_refused check words faulty)
+    (is_call_named frame words first (codes "check") at named refl)
 
 -- the same of `frame`
 pub frame_refused : {Z : Type 0} (words : List (String Z)) (first : String Z) → slice_get words 0 ≡ Some first → string_bytes first ≡ codes "frame"
     → fault_of frame (texts words) ≢ [] → command_of (texts words) ≡ None
 frame_refused words first at named faulty =
     none_taken words (is_call_named wrap words first (codes "frame") at named refl) (is_call_named encode words first (codes "frame") at named refl)
-    (is_call_named check words first (codes "frame") at named refl) (is_call_refused frame words faulty)
+    (is_call_named recover words first (codes "frame") at named refl) (is_call_named check words first (codes "frame") at named refl)
+    (is_call_refused frame words faulty)
 
 -- words that `wrap` takes
 pub wrap_taken : {Z : Type 0} (words : List (String Z)) (first : String Z) (read : Result Command WordsFault) → slice_get words 0 ≡ Some first → string_bytes first ≡ codes "wrap"
-    → IfOk read (λ command. command ≡ Wrap) → OnOk read (fault_of wrap (texts words) ≡ []) → IfOk read (λ command. command_of (texts words) ≡ Some command)
+    → IfOk read (λ command. command ≡ Wrap) → OnOk read (fault_of wrap (texts words) ≡ [])
+    → IfOk read (λ command. command_of (texts words) ≡ Some command)
 wrap_taken words first (Ok command) at named is none = rw (is_call_taken wrap words first at named none) (ap Some (sym is))
 wrap_taken words first (Err _) at named is none = tt
 
--- and those that `encode` takes
+-- those that `encode` takes
 pub encode_taken : {Z : Type 0} (words : List (String Z)) (first : String Z) (read : Result Command WordsFault) → slice_get words 0 ≡ Some first → string_bytes first ≡ codes "encode"
-    → IfOk read (λ command. command ≡ Encode) → OnOk read (fault_of encode (texts words) ≡ []) → IfOk read (λ command. command_of (texts words) ≡ Some command)
-encode_taken words first (Ok command) at named is none =
-    rw (is_call_named wrap words first (codes "encode") at named refl, is_call_taken encode words first at named none) (ap Some (sym is))
+    → IfOk read (λ command. command ≡ Encode) → OnOk read (fault_of encode (texts words) ≡ [])
+    → IfOk read (λ command. command_of (texts words) ≡ Some command)
+encode_taken words first (Ok command) at named is none = rw (
+  is_call_named wrap words first (codes "encode") at named refl,
+  is_call_taken encode words first at named none,
+) (ap Some (sym is))
 encode_taken words first (Err _) at named is none = tt
+
+-- those that `recover` takes
+pub recover_taken : {Z : Type 0} (words : List (String Z)) (first : String Z) (read : Result Command WordsFault) → slice_get words 0 ≡ Some first → string_bytes first ≡ codes "recover"
+    → IfOk read (λ command. command ≡ Recover) → OnOk read (fault_of recover (texts words) ≡ [])
+    → IfOk read (λ command. command_of (texts words) ≡ Some command)
+recover_taken words first (Ok command) at named is none = rw (
+  is_call_named wrap words first (codes "recover") at named refl,
+  is_call_named encode words first (codes "recover") at named refl,
+  is_call_taken recover words first at named none,
+) (ap Some (sym is))
+recover_taken words first (Err _) at named is none = tt
 
 -- those that `check` takes
 pub check_taken : {Z : Type 0} (words : List (String Z)) (first : String Z) (read : Result Command WordsFault) → slice_get words 0 ≡ Some first → string_bytes first ≡ codes "check"
-    → IfOk read (λ command. command ≡ Check) → OnOk read (fault_of check (texts words) ≡ []) → IfOk read (λ command. command_of (texts words) ≡ Some command)
-check_taken words first (Ok command) at named is none =
-    rw (is_call_named wrap words first (codes "check") at named refl, is_call_named encode words first (codes "check") at named refl, is_call_taken check words first at named none)
-    (ap Some (sym is))
+    → IfOk read (λ command. command ≡ Check) → OnOk read (fault_of check (texts words) ≡ [])
+    → IfOk read (λ command. command_of (texts words) ≡ Some command)
+check_taken words first (Ok command) at named is none = rw (
+  is_call_named wrap words first (codes "check") at named refl,
+  is_call_named encode words first (codes "check") at named refl,
+  is_call_named recover words first (codes "check") at named refl,
+  is_call_taken check words first at named none,
+) (ap Some (sym is))
 check_taken words first (Err _) at named is none = tt
 
 -- and those that `frame` takes, with the number that they give
 pub frame_taken : {Z : Type 0} (words : List (String Z)) (first : String Z) (read : Result Command WordsFault) → slice_get words 0 ≡ Some first → string_bytes first ≡ codes "frame"
     → IfOk read (λ command. option_map Frame (number_of frame (texts words)) ≡ Some command) → OnOk read (fault_of frame (texts words) ≡ [])
     → IfOk read (λ command. command_of (texts words) ≡ Some command)
-frame_taken words first (Ok command) at named is none =
-    rw (
-      is_call_named wrap words first (codes "frame") at named refl,
-      is_call_named encode words first (codes "frame") at named refl,
-      is_call_named check words first (codes "frame") at named refl,
-      is_call_taken frame words first at named none,
-    ) is
+frame_taken words first (Ok command) at named is none = rw (
+  is_call_named wrap words first (codes "frame") at named refl,
+  is_call_named encode words first (codes "frame") at named refl,
+  is_call_named recover words first (codes "frame") at named refl,
+  is_call_named check words first (codes "frame") at named refl,
+  is_call_taken frame words first at named none,
+) is
 frame_taken words first (Err _) at named is none = tt

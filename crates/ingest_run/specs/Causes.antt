@@ -6,7 +6,7 @@ use Rattle.run_parts.specs.Causes.{Counts, IsFeedAnswer, HasDeviceCauses, HasFee
 use Rattle.run_parts.specs.Statuses.{sink_answer}
 use Rattle.take_commands.specs.Causes.{HasTakeCauses}
 use Rattle.ingest_run.specs.declared.words.Command.{Command}
-use Rattle.ingest_run.specs.declared.words.Command.TheVariants.{Wrap, Encode, Check, Frame}
+use Rattle.ingest_run.specs.declared.words.Command.TheVariants.{Wrap, Encode, Recover, Check, Frame}
 use Rattle.ingest_run.specs.Commands.{Around, IsWordsAnswer}
 use Rattle.ingest_run.specs.Words.{command_of}
 
@@ -25,6 +25,7 @@ abbrev pub CausesFor : {S D W : Type 0} → Option Command → Around S D W → 
 CausesFor None before now status = HasNoFault before now × IsWordsAnswer status
 CausesFor (Some Wrap) before now status = HasFeedCauses before.run.counts now.run.counts status
 CausesFor (Some Encode) before now status = HasPictureCauses before.run.counts now.run.counts status
+CausesFor (Some Recover) before now status = HasTakeCauses before.view now.view status
 CausesFor (Some Check) before now status = HasTakeCauses before.view now.view status
 CausesFor (Some (Frame number)) before now status = HasTakeCauses before.view now.view status
 

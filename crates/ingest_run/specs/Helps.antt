@@ -2,7 +2,7 @@
 use Rattle.std.specs.Prelude.{◌&&◌, ◌||◌, ℕ, Bool, List, [], ◌∷◌, Option, Some, None, false, codes, if◌then◌else◌}
 use Rattle.std.specs.Str.{bytes_eq}
 use Rattle.clap.specs.Walk.{Text}
-use Rattle.ingest_run.specs.declared.help.TheConstants.{SERVER, WRAP, ENCODE, CHECK, FRAME, VERSION}
+use Rattle.ingest_run.specs.declared.help.TheConstants.{SERVER, WRAP, ENCODE, RECOVER, CHECK, FRAME, VERSION}
 
 -- a word that asks for help
 abbrev pub is_help : Text → Bool
@@ -21,6 +21,7 @@ help_of (first ∷ rest) =
     else if bytes_eq first (codes "--version") then Some VERSION.now
     else if bytes_eq first (codes "wrap") && are_help rest then Some WRAP.now
     else if bytes_eq first (codes "encode") && are_help rest then Some ENCODE.now
+    else if bytes_eq first (codes "recover") && are_help rest then Some RECOVER.now
     else if bytes_eq first (codes "check") && are_help rest then Some CHECK.now
     else if bytes_eq first (codes "frame") && are_help rest then Some FRAME.now
     else None

@@ -1,22 +1,23 @@
 -- What a program writes, answers and says of its answer (own). docs/FORMATS.md, "Words" and "Statuses".
 use Rattle.std.specs.Prelude.{◌≡◌, ◌⊎◌, ℕ, List, [], ◌++◌, Option, Some, None, Result, Ok, Err}
 use Rattle.clap.specs.Walk.{Text}
-use Rattle.rec_bytes.specs.Configuration.{Fields}
 use Rattle.rec_bytes.specs.Faults.{Rose}
 use Rattle.rec_bytes.specs.declared.status.Status.{Status}
+use Rattle.take_layout.specs.declared.layout.TakeLayout.{Ghosts}
 use Rattle.run_parts.specs.Gains.{Gains, Lacks}
 use Rattle.run_parts.specs.Statuses.{answer, memory_answer, words_answer, sink_answer}
 use Rattle.ingest_run.specs.declared.words.WordsFault.{WordsFault}
 use Rattle.ingest_run.specs.declared.words.WordsFault.TheVariants.{Memory, Faulty}
+use Rattle.ingest_run.specs.declared.words.Command.{Command}
 use Rattle.ingest_run.specs.Causes.{HasCauses}
 use Rattle.ingest_run.specs.Commands.{Around, RunsCommand}
 use Rattle.ingest_run.specs.Helps.{help_of}
 use Rattle.ingest_run.specs.Messages.{Taken, SaysAnswer, taken}
+use Rattle.ingest_run.specs.Words.{command_of}
 
 -- the one call of a command: what it did and answered, and the cause of the answer
-pub record AnswersCommand {S D W : Type 0} (closed growing : Fields → List (List ℕ) → List ℕ) (words : List Text) (before now : Around S D W)
-    (status : Status) : Type 0 where
-  pub ran : RunsCommand closed growing words before now status
+pub record AnswersCommand {L S D W : Type 0} (layout : Ghosts L) (words : List Text) (before now : Around S D W) (status : Status) : Type 0 where
+  pub ran : RunsCommand layout words before now status
   pub cause : HasCauses words before now status
 
 -- all was done and the whole text was written, or the sink failed and lacks a part of it
@@ -45,16 +46,23 @@ fault_answer Memory = memory_answer
 fault_answer Faulty = words_answer
 
 -- help goes before any command
-abbrev pub AnswersFor : {S D W : Type 0} → (Fields → List (List ℕ) → List ℕ) → (Fields → List (List ℕ) → List ℕ) → Option (List ℕ) → List Text
-    → Around S D W → Around S D W → Status → Type 0
-AnswersFor closed growing (Some text) words before now status = AnswersHelp text before now status
-AnswersFor closed growing None words before now status = AnswersCommand closed growing words before now status
+abbrev pub AnswersFor : {L S D W : Type 0} → Ghosts L → Option (List ℕ) → List Text → Around S D W → Around S D W → Status → Type 0
+AnswersFor layout (Some text) words before now status = AnswersHelp text before now status
+AnswersFor layout None words before now status = AnswersCommand layout words before now status
 
 -- what a program does and answers for its words; those that can't be read touch nothing
-abbrev pub AnswersWords : {S D W : Type 0} → (Fields → List (List ℕ) → List ℕ) → (Fields → List (List ℕ) → List ℕ) → Result (List Text) WordsFault
-    → Around S D W → Around S D W → Status → Type 0
-AnswersWords closed growing (Ok words) before now status = AnswersFor closed growing (help_of words) words before now status
-AnswersWords closed growing (Err fault) before now status = (status ≡ fault_answer fault) × (now ≡ before)
+abbrev pub AnswersWords : {L S D W : Type 0} → Ghosts L → Result (List Text) WordsFault → Around S D W → Around S D W → Status → Type 0
+AnswersWords layout (Ok words) before now status = AnswersFor layout (help_of words) words before now status
+AnswersWords layout (Err fault) before now status = (status ≡ fault_answer fault) × (now ≡ before)
+
+-- the command that a program runs; none where its words ask for help, or can't be read
+abbrev pub runs_for : Option (List ℕ) → List Text → Option Command
+runs_for (Some text) words = None
+runs_for None words = command_of words
+
+abbrev pub runs_in : Result (List Text) WordsFault → Option Command
+runs_in (Ok words) = runs_for (help_of words) words
+runs_in (Err _) = None
 
 -- the program ends with its answer's code, and has written its messages
 pub record EndsProgram (Answered : Status → Type 0) (before now : Taken) (code : ℕ) : Type 0 where

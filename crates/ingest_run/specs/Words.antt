@@ -9,7 +9,7 @@ use Rattle.clap.specs.declared.builder.ArgAction.TheVariants.{Set}
 use Rattle.clap.specs.declared.builder.value_parser.ValueParser.TheVariants as vp
 use Rattle.clap.specs.Walk.{Text}
 use Rattle.ingest_run.specs.declared.words.Command.{Command}
-use Rattle.ingest_run.specs.declared.words.Command.TheVariants.{Wrap, Encode, Check, Frame}
+use Rattle.ingest_run.specs.declared.words.Command.TheVariants.{Wrap, Encode, Recover, Check, Frame}
 
 -- the bytes of each word
 abbrev pub texts : {Z : Type 0} → List (String Z) → List Text
@@ -43,6 +43,9 @@ wrap = without_help (new_app (codes "wrap"))
 abbrev pub encode : App
 encode = with_rule (without_help (new_app (codes "encode"))) workers
 
+abbrev pub recover : App
+recover = with_rule (without_help (new_app (codes "recover"))) dir
+
 abbrev pub check : App
 check = with_rule (without_help (new_app (codes "check"))) dir
 
@@ -62,6 +65,7 @@ number_of app words = option_map (λ text. digits_value 10 (without_leading_plus
 abbrev pub command_of : List Text → Option Command
 command_of words =
     if is_call wrap words then Some Wrap else if is_call encode words then Some Encode
+    else if is_call recover words then Some Recover
     else if is_call check words then Some Check else if is_call frame words then option_map Frame (number_of frame words)
     else None
 

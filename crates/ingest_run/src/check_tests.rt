@@ -47,7 +47,10 @@ fn looked<N: Feed, R: AllocGlobal + Abort>(
 
 /// The closed file of three of the smallest frames: its header at 0, metadata at 124, a body at 3,289 with elements at 3,413,
 /// 3,487 and 3,561, the footer at 3,635 with metadata at 3,759 and a segment at 6,924, and the random index pack at 7,097.
-fn small_file<N: Feed, R: AllocGlobal + Abort>(rt: &R, feed: &[u8]) -> Result<Vec<u8>, Fail>
+pub(crate) fn small_file<N: Feed, R: AllocGlobal + Abort>(
+    rt: &R,
+    feed: &[u8],
+) -> Result<Vec<u8>, Fail>
     requires { N.bytes ≡ Some feed.now }
 {
     let (answer, file) = wrapped::<N, R>(rt, feed, &[], &[], 8000)?;
@@ -56,7 +59,7 @@ fn small_file<N: Feed, R: AllocGlobal + Abort>(rt: &R, feed: &[u8]) -> Result<Ve
 }
 
 /// The bytes of a file between two places.
-fn cut(alloc: Global, file: &[u8], from: usize, to: usize) -> Result<Vec<u8>, Fail> {
+pub(crate) fn cut(alloc: Global, file: &[u8], from: usize, to: usize) -> Result<Vec<u8>, Fail> {
     let mut piece = Vec::new(alloc);
     for byte in file.iter().skip(from).take(to.saturating_sub(from)) {
         piece.push(*byte)?;

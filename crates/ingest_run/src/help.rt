@@ -9,20 +9,22 @@ ghost use Rattle.ingest_run.specs.Words.{texts};
 /// `--help`, `-h` and `help`.
 pub const SERVER: &str = "\
 ingest_server - takes in pictures or finished ProRes frames and writes an MXF
-file of them, and looks at the file of a take
+file of them, closes takes after a stop, and looks at the file of a take
 
 Usage: ingest_server COMMAND
        ingest_server --help | --version
 
 Commands:
-  wrap    read a feed of finished frames on standard input and write one
-          closed MXF OP1a file of them to standard output
-  encode  read a feed of pictures on standard input and write one closed MXF
-          OP1a file of their ProRes frames to standard output
-  check   read the file of a take in a folder, judge whether it is a closed
-          MXF OP1a file, and say in one line what it holds
-  frame   read the file of a take in a folder and write the samples of one of
-          its pictures to standard output
+  wrap     read a feed of finished frames on standard input and write one
+           closed MXF OP1a file of them to standard output
+  encode   read a feed of pictures on standard input and write one closed MXF
+           OP1a file of their ProRes frames to standard output
+  recover  close the take in a folder after its recorder stopped, and say in
+           one line how it was found
+  check    read the file of a take in a folder, judge whether it is a closed
+           MXF OP1a file, and say in one line what it holds
+  frame    read the file of a take in a folder and write the samples of one of
+           its pictures to standard output
 
 Help:
   -h, --help, help    print this text
@@ -34,7 +36,7 @@ memory they keep room for one frame, encode for the longest one and for a
 picture too, 24 bytes for each frame, and a buffer for what stands between
 frames. Where the input breaks off or breaks its form, or where a frame is
 refused, the file of the whole frames before that place has been written.
-check and frame read no input, and write to no file.
+recover, check and frame read no input, and check and frame write to no file.
 
 Exit status, with the number that stands behind `refusal` in the fault line:
   0    everything was read, and everything was written
@@ -48,10 +50,12 @@ Exit status, with the number that stands behind `refusal` in the fault line:
          115  a sample is above 1023 (encode)
          116  a frame is longer than 2^28 bytes (wrap)
   5    standard input could not be read (113)
-  6    the file of a take could not be read (83)
+  6    a file of a take could not be read, or by recover written (83)
   7    standard output could not be written (117)
   8    something that was read is refused:
          73   the file is not a closed OP1a file (check, frame)
+         80   the commits do not begin with those of a take (recover)
+         81   a commit is damaged, or the file is not what they say (recover)
          93   the file has no frame of this number (frame)
        a frame of wrap, or the frame that frame was asked for:
          30   it has fewer bytes than the least frame header
@@ -85,8 +89,9 @@ Where the status is not 0, standard error has the line
 A is the byte of the input at which a feed breaks its form, counted from 0.
 For 30 to 41 it is the byte of the frame (for 30 the frame's length), and of
 wrap O is the frame's number, both counted from 0. For 73 it is the byte of
-the file, and O the clause that is broken. For 93 it is the number of frames
-of the file, and O the one that was asked for. For 20 to 25, 11 and 12 it is
+the file, and O the clause that is broken. For 80 and 81 it is the byte of the
+file O: 0 is take.mxf, 1 take.commits. For 93 it is the number of frames of the
+file, and O the one that was asked for. For 20 to 25, 11 and 12 it is
 the slice, and O the frame, both counted from 0. For status 10 it is the
 number of frames that the configuration allows, and for 5, 6 and 7 the number
 of faults.
@@ -154,6 +159,36 @@ is written.
 `ingest_server --help` lists the statuses.
 ";
 
+/// `recover --help` and `recover -h`.
+pub const RECOVER: &str = "\
+ingest_server recover - close the take in a folder after its recorder stopped
+
+Usage: ingest_server recover --dir FOLDER
+
+Reads take.mxf and take.commits in the folder. The commits say how many frames
+are durable, and in how many bytes of the file. What stands behind these bytes
+is cut, the footer is written, and then the commit that says so. A file that is
+not there is judged as an empty one, and is not made.
+
+Writes one line to standard output once all is on the disk:
+  closed C bytes B     the take was open, and is closed now
+  already C bytes B    it was closed before, and nothing was written
+C is the number of frames, and B the number of bytes of the file.
+
+It may be stopped at any moment and run again: no frame is lost that was told
+to be durable, and the file that it ends with is the same.
+
+Options:
+  --dir FOLDER    the folder of the take; must be given
+
+Where the commits begin with no take (status 8, 80), or where a commit is
+damaged or the file is not what they say (81), nothing is written, and the
+fault line names the byte, and of which file: 0 is take.mxf, 1 take.commits.
+Where a file can't be read or written (status 6), a part of this may have been
+done; run it again.
+`ingest_server --help` lists the statuses.
+";
+
 /// `check --help` and `check -h`.
 pub const CHECK: &str = "\
 ingest_server check - judge the file of a take, and say what it holds
@@ -205,6 +240,7 @@ reading fails (status 6), nothing is written.
 pub const USAGE: &str = "
 usage: ingest_server wrap < FEED > FILE.mxf
        ingest_server encode --workers N < FEED > FILE.mxf
+       ingest_server recover --dir FOLDER
        ingest_server check --dir FOLDER
        ingest_server frame --dir FOLDER --number N > SAMPLES
        ingest_server --help
@@ -230,6 +266,9 @@ pub(crate) fn help_text(words: &[String]) -> Option<&'static str>
     }
     if first == "encode" && are_help(rest) {
         return Some(ENCODE);
+    }
+    if first == "recover" && are_help(rest) {
+        return Some(RECOVER);
     }
     if first == "check" && are_help(rest) {
         return Some(CHECK);

@@ -6,8 +6,9 @@
 //! Over a feed a run is what `Runs` says of `Wraps` or `Encodes` (`specs/Runs.antt`) and of `KeepsPace`
 //! (`specs/Paces.antt`): the bytes that are written and the answer for the feed's bytes, by the closed files of a layout,
 //! how soon they are written and how far is read, and what of it holds where memory is wanted or a device fails. Over a
-//! take it is what take_commands says. `HasCauses` (`specs/Causes.antt`) has the cause of each answer, by the words and
-//! the counts of faults. The disk is only read.
+//! take it is what take_commands says. `LeavesFor` has what is left of the disk, which only `recover` writes to: whatever
+//! a crash leaves stays safe. `HasCauses` (`specs/Causes.antt`) has the cause of each answer, by the words and the counts
+//! of faults.
 //! Terms: a run is one call; an answer is its `Status`; a layout is a type that implements `TakeLayout` of take_layout.
 //! Not promised: anything of the bytes where the source or the disk doesn't tell them, what the layout's parts say, what
 //! the sentence says, and how long a call takes.
@@ -27,6 +28,8 @@ mod next;
 mod options;
 mod paths;
 mod program;
+#[cfg(test)]
+mod recover_tests;
 mod report;
 #[cfg(test)]
 mod tests;

@@ -52,11 +52,12 @@ fn a_program_says_its_answer(rt: HostRuntime) -> Result<(), Fail> {
         ingest_server: the words are no command with its options\n\
         usage: ingest_server wrap < FEED > FILE.mxf\n\
         \x20      ingest_server encode --workers N < FEED > FILE.mxf\n\
+        \x20      ingest_server recover --dir FOLDER\n\
         \x20      ingest_server check --dir FOLDER\n\
         \x20      ingest_server frame --dir FOLDER --number N > SAMPLES\n\
         \x20      ingest_server --help\n";
     // words, room of the output and of the messages; the code, bytes of the output and the first of them, and the messages
-    let cases: [(&[&str], usize, usize, u8, usize, &[u8], &[u8]); 17] = [
+    let cases: [(&[&str], usize, usize, u8, usize, &[u8], &[u8]); 18] = [
         (&["wrap"], 10_000, 400, 3, 7072, &HEADER_KEY, CUT),
         (&["wrap"], 10_000, 20, 3, 7072, &HEADER_KEY, b""),
         (&["wrap"], 3_000, 400, 7, 0, b"", SINK),
@@ -97,6 +98,15 @@ fn a_program_says_its_answer(rt: HostRuntime) -> Result<(), Fail> {
             0,
             1180,
             b"ingest_server encode - ",
+            b"",
+        ),
+        (
+            &["recover", "--help"],
+            10_000,
+            400,
+            0,
+            1243,
+            b"ingest_server recover - ",
             b"",
         ),
         (

@@ -2,7 +2,7 @@
 
 ghost use Rattle.std.specs.Prelude.{◌≡◌, IfOk, codes};
 ghost use Rattle.clap.specs.Words.{app_of, rule_of};
-ghost use Rattle.ingest_run.specs.Words.{check, dir, encode, frame, number, workers};
+ghost use Rattle.ingest_run.specs.Words.{check, dir, encode, frame, number, recover, workers};
 ghost use Rattle.ingest_run.specs.inner.Options.{AsksNumber, IsOption, TakesNumber};
 
 use clap::ArgAction;
@@ -20,6 +20,18 @@ pub(crate) fn encode_command<'a>(alloc: Global) -> Result<clap::Command<'a>, Mem
         .value_parser(clap::value_parser!(u8).range(1..65));
     let command = clap::Command::new(alloc, "encode").disable_help_flag(true);
     match command.arg(workers) {
+        Ok(command) => Ok(command),
+        Err(_) => Err(Memory),
+    }
+}
+
+/// `recover` and its option.
+pub(crate) fn recover_command<'a>(alloc: Global) -> Result<clap::Command<'a>, Memory>
+    ensures { IfOk result (λ command. app_of command ≡ recover) }
+{
+    let dir = dir_option(alloc);
+    let command = clap::Command::new(alloc, "recover").disable_help_flag(true);
+    match command.arg(dir) {
         Ok(command) => Ok(command),
         Err(_) => Err(Memory),
     }

@@ -2,12 +2,11 @@
 
 ghost use Rattle.std.specs.Prelude.{◌≤◌, ℕ, List, length};
 ghost use Rattle.rec_bytes.specs.Configuration.{Fields};
-ghost use Rattle.take_disk.specs.Calls.{Stays};
 ghost use Rattle.take_disk.specs.Elapsed.{Elapsed};
-ghost use Rattle.ingest_run.specs.Commands.{around};
+ghost use Rattle.ingest_run.specs.Commands.{LeavesFor, around};
 ghost use Rattle.ingest_run.specs.Helps.{help_of};
 ghost use Rattle.ingest_run.specs.Messages.{taken};
-ghost use Rattle.ingest_run.specs.Programs.{AnswersFor, AnswersWords, EndsProgram, WritesHelp};
+ghost use Rattle.ingest_run.specs.Programs.{AnswersFor, AnswersWords, EndsProgram, WritesHelp, runs_for, runs_in};
 ghost use Rattle.ingest_run.specs.Words.{texts, texts_in};
 ghost use Rattle.ingest_run.specs.inner.Answers.{run_answer};
 
@@ -40,11 +39,11 @@ pub fn run_program<
     messages: &mut M,
 ) -> u8
     requires units { (cfg : Fields) (unit : List ℕ) → length unit ≤ MAX_UNIT → L.is_unit cfg unit }
-    ensures ended { EndsProgram (AnswersWords L.closed L.growing (texts_in words.now)
+    ensures ended { EndsProgram (AnswersWords L.TakeLayout (texts_in words.now)
         (around S.told S.fault_count D.told D.fault_count W.written W.fault_count feed.old disk.old out.old)
         (around S.told S.fault_count D.told D.fault_count W.written W.fault_count feed.new disk.new out.new))
         (taken (M.written messages.old) (M.fault_count messages.old)) (taken (M.written messages.new) (M.fault_count messages.new)) result }
-    ensures stays { Stays (D.told disk.old) (D.told disk.new) (D.length_of disk.old) (D.length_of disk.new) }
+    ensures disk { LeavesFor L.TakeLayout D.TakeDisk (runs_in (texts_in words.now)) disk.old disk.new }
     ensures time { Elapsed (D.moment disk.old) (D.moment disk.new) (D.images_since disk.old) (D.images_since disk.new)
         (D.made disk.old) (D.made disk.new) }
 {
@@ -65,10 +64,10 @@ fn answer<R: AllocGlobal, N: Feed, L: TakeLayout, S: Source<N>, D: TakeDisk, W: 
     out: &mut W,
 ) -> Result<(), RunFault>
     requires units { (cfg : Fields) (unit : List ℕ) → length unit ≤ MAX_UNIT → L.is_unit cfg unit }
-    ensures answered { AnswersFor L.closed L.growing (help_of (texts words.now)) (texts words.now)
+    ensures answered { AnswersFor L.TakeLayout (help_of (texts words.now)) (texts words.now)
         (around S.told S.fault_count D.told D.fault_count W.written W.fault_count feed.old disk.old out.old)
         (around S.told S.fault_count D.told D.fault_count W.written W.fault_count feed.new disk.new out.new) (run_answer result) }
-    ensures stays { Stays (D.told disk.old) (D.told disk.new) (D.length_of disk.old) (D.length_of disk.new) }
+    ensures disk { LeavesFor L.TakeLayout D.TakeDisk (runs_for (help_of (texts words.now)) (texts words.now)) disk.old disk.new }
     ensures time { Elapsed (D.moment disk.old) (D.moment disk.new) (D.images_since disk.old) (D.images_since disk.new)
         (D.made disk.old) (D.made disk.new) }
 {

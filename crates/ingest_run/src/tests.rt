@@ -94,12 +94,13 @@ pub(crate) fn ran<N: Feed, R: AllocGlobal + Abort>(
     let mut feed = MemorySource::<N>::new(bytes, source_fails);
     let mut out = MemorySink::new(rt.alloc(), room, sink_fails)?;
     let mut disk = MemoryDisk::new(rt.alloc(), &[], &[], 0, 0, &[], None)?;
-    let faulty: [&[&str]; 7] = [
+    let faulty: [&[&str]; 8] = [
         &[],
         &["unwrap"],
         &["wrap", "x"],
         &["wrap", "--help"],
         &["encode"],
+        &["recover"],
         &["check"],
         &["frame", "--dir", "d"],
     ];

@@ -3,10 +3,10 @@
 ghost use Rattle.std.specs.Prelude.{◌≡◌, ◌≢◌, [], true, Some, IfOk, OnOk, option_map};
 ghost use Rattle.clap.specs.Words.{app_of, fault_of, is_simple_and_free};
 ghost use Rattle.ingest_run.specs.Programs.{fault_answer};
-ghost use Rattle.ingest_run.specs.Words.{check, command_of, encode, frame, number_of, texts, wrap};
+ghost use Rattle.ingest_run.specs.Words.{check, command_of, encode, frame, number_of, recover, texts, wrap};
 ghost use Rattle.ingest_run.specs.inner.Options.{AsksNumber};
 
-use crate::options::{check_command, encode_command, frame_command};
+use crate::options::{check_command, encode_command, frame_command, recover_command};
 use clap::error::ErrorKind;
 use rec_bytes::Status;
 use run_parts::{FAULTY_WORDS, MEMORY};
@@ -20,6 +20,8 @@ pub(crate) enum Command {
     Wrap,
     /// Write the closed file of the frames of a feed of pictures.
     Encode,
+    /// Close a take after a stop.
+    Recover,
     /// Say what the file of a take holds.
     Check,
     /// Write the samples of a picture of a take.
@@ -61,6 +63,7 @@ pub(crate) fn read_command(alloc: Global, words: &[String]) -> Result<Command, W
     match first.as_str() {
         "wrap" => read_wrap(alloc, words),
         "encode" => read_encode(alloc, words),
+        "recover" => read_recover(alloc, words),
         "check" => read_check(alloc, words),
         "frame" => read_frame(alloc, words),
         _ => Err(WordsFault::Faulty),
@@ -89,6 +92,19 @@ fn read_encode(alloc: Global, words: &[String]) -> Result<Command, WordsFault>
     };
     take_words(command, words)?;
     Ok(Command::Encode)
+}
+
+/// Reads the words of `recover`.
+fn read_recover(alloc: Global, words: &[String]) -> Result<Command, WordsFault>
+    ensures named { IfOk result (λ command. command ≡ Command.Recover) }
+    ensures taken { OnOk result (fault_of recover (texts words.now) ≡ []) }
+    ensures refused { result ≡ Err WordsFault.Faulty → fault_of recover (texts words.now) ≢ [] }
+{
+    let Ok(command) = recover_command(alloc) else {
+        return Err(WordsFault::Memory);
+    };
+    take_words(command, words)?;
+    Ok(Command::Recover)
 }
 
 /// Reads the words of `check`.
@@ -220,6 +236,21 @@ mod tests {
             (&["encode", "--help"], FAULTY),
             (&["Encode", "--workers", "3"], FAULTY),
             (&["encode", "--dir", "d"], FAULTY),
+        ];
+        each_is_read(&rt, &rows)
+    }
+
+    #[test]
+    fn recover_takes_a_folder(rt: HostRuntime) -> Result<(), Fail> {
+        let rows: [Row; 8] = [
+            (&["recover", "--dir", "d"], Ok(Command::Recover)),
+            (&["recover", "--dir=d"], Ok(Command::Recover)),
+            (&["recover"], FAULTY),
+            (&["recover", "--dir"], FAULTY),
+            (&["recover", "d"], FAULTY),
+            (&["recover", "--dir", "d", "--number", "0"], FAULTY),
+            (&["recover", "--dir", "d", "--dir", "d"], FAULTY),
+            (&["Recover", "--dir", "d"], FAULTY),
         ];
         each_is_read(&rt, &rows)
     }

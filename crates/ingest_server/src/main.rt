@@ -39,27 +39,29 @@ fn run(rt: &HostRuntime, words: &Result<Vec<String>, WordsFault>, mut disk: File
     )
 }
 
-/// The disk of the take that the words name. Where no command looks at a take it has no files, and no command calls it.
+/// The disk of the take that the words name. Where they name no command over a take it has no files, and no command calls it.
 fn open_disk(
     rt: &HostRuntime,
     words: &Result<Vec<String>, WordsFault>,
 ) -> Result<FileDisk<File>, Memory> {
     match take_folder(words) {
-        Some(folder) => FileDisk::open(rt, rt.alloc(), folder, Access::Look),
+        Some((folder, access)) => FileDisk::open(rt, rt.alloc(), folder, access),
         None => Ok(FileDisk::new(None, None)),
     }
 }
 
-/// The folder of a take, where the words begin with the name of a command that looks at one.
-fn take_folder(words: &Result<Vec<String>, WordsFault>) -> Option<&str> {
+/// The folder of a take and what its files are opened for, where the words begin with the name of a command over one. No
+/// command makes a file.
+fn take_folder(words: &Result<Vec<String>, WordsFault>) -> Option<(&str, Access)> {
     let Ok(words) = words else {
         return None;
     };
-    let first = words.first()?.as_str();
-    if first != "check" && first != "frame" {
-        return None;
-    }
-    Some(read_paths(words.as_slice())?.dir)
+    let access = match words.first()?.as_str() {
+        "recover" => Access::Change,
+        "check" | "frame" => Access::Look,
+        _ => return None,
+    };
+    Some((read_paths(words.as_slice())?.dir, access))
 }
 
 /// The words behind the program's name. One that isn't text is faulty.

@@ -14,7 +14,7 @@ use Rattle.take_commands.specs.Answers.{decode_answer, disk_answer, take_answer}
 use Rattle.take_commands.specs.Causes.{HasTakeCauses}
 use Rattle.take_commands.specs.Views.{Devices}
 use Rattle.take_commands.specs.declared.fault.TakeFault.{TakeFault}
-use Rattle.take_commands.specs.declared.fault.TakeFault.TheVariants.{Memory, Disk, Sink, NotOp1a, Past, Refused}
+use Rattle.take_commands.specs.declared.fault.TakeFault.TheVariants.{Memory, Disk, Sink, NotOp1a, Past, Refused, NoTake, Damaged}
 use Rattle.take_commands.specs.inner.Faults.{check_fault, decode_fault}
 use Rattle.take_commands.specs.inner.Steps.{HasSinkCause, IsDiskFault}
 
@@ -35,7 +35,7 @@ decode_code number (Frame (SliceTable at other)) = inr refl
 decode_code number (OneMatrix at) = inr refl
 decode_code number (Slice index fault) = inr refl
 
--- the part that reads doesn't answer for the sink
+-- the part that calls the disk doesn't answer for the sink
 pub not_sink : (before now : ℕ) (fault : TakeFault) → IsDiskFault before now fault
     → (take_answer (Err fault)).code ≢ 7
 not_sink before now Memory cause = λ (e : 1 ≡ 7). absurd (omega arith)
@@ -49,6 +49,8 @@ not_sink before now (Refused number fault) cause =
     (λ (memory : decode_answer number fault ≡ memory_answer). let is : 1 ≡ 7 = sym (ap (λ (s : Status). s.code) memory) ∙ e in absurd (omega arith))
     (λ (eight : (decode_answer number fault).code ≡ 8). let is : 8 ≡ 7 = sym eight ∙ e in absurd (omega arith))
     (decode_code number fault)
+not_sink before now (NoTake at area) cause = λ (e : 8 ≡ 7). absurd (omega arith)
+not_sink before now (Damaged at area) cause = λ (e : 8 ≡ 7). absurd (omega arith)
 
 -- memory was wanted
 causes_memory : (before now : Devices) → now.disk ≡ before.disk → now.sink ≡ before.sink → HasTakeCauses before now memory_answer
@@ -70,7 +72,7 @@ causes_refused before now status eight disk sink = record {
   sink_kept = λ other. sink;
 }
 
--- the part that reads ended with a fault
+-- the part that calls the disk ended with a fault
 pub causes_fault : (before now : Devices) (fault : TakeFault) → IsDiskFault before.disk now.disk fault
     → now.sink ≡ before.sink → HasTakeCauses before now (take_answer (Err fault))
 causes_fault before now Memory cause sink = causes_memory before now cause sink
@@ -90,6 +92,8 @@ causes_fault before now (Refused number fault) cause sink =
     subst (λ (s : Status). HasTakeCauses before now s) (sym memory) (causes_memory before now cause sink))
     (λ (eight : (decode_answer number fault).code ≡ 8). causes_refused before now (decode_answer number fault) eight cause sink)
     (decode_code number fault)
+causes_fault before now (NoTake at area) cause sink = causes_refused before now (take_answer (Err (NoTake at area))) refl cause sink
+causes_fault before now (Damaged at area) cause sink = causes_refused before now (take_answer (Err (Damaged at area))) refl cause sink
 
 -- the part that writes ended
 pub causes_written : (before now : Devices) (r : Result (Unit {0}) TakeFault) → now.disk ≡ before.disk → HasSinkCause before.sink now.sink r
@@ -113,6 +117,8 @@ causes_written before now (Err (Disk count)) disk cause = absurd cause
 causes_written before now (Err (NotOp1a clause at)) disk cause = absurd cause
 causes_written before now (Err (Past count number)) disk cause = absurd cause
 causes_written before now (Err (Refused number fault)) disk cause = absurd cause
+causes_written before now (Err (NoTake at area)) disk cause = absurd cause
+causes_written before now (Err (Damaged at area)) disk cause = absurd cause
 
 -- the file wasn't read
 pub check_cause : (before now : ℕ) (fault : CheckFault) (is : TakeFault) → is ≡ check_fault fault

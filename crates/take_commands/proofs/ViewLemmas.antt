@@ -8,7 +8,7 @@ use Rattle.take_disk.specs.Held.{Disk as Holds}
 use Rattle.take_commands.specs.Answers.{take_answer}
 use Rattle.take_commands.specs.Views.{Devices, Views, ViewsBytes}
 use Rattle.take_commands.specs.declared.fault.TakeFault.{TakeFault}
-use Rattle.take_commands.specs.declared.fault.TakeFault.TheVariants.{Memory, Disk, Sink, NotOp1a, Past, Refused}
+use Rattle.take_commands.specs.declared.fault.TakeFault.TheVariants.{Memory, Disk, Sink, NotOp1a, Past, Refused, NoTake, Damaged}
 use Rattle.take_commands.specs.inner.Steps.{HasSinkCause, IsDiskFault, IsToAnswer, IsToWrite}
 use Rattle.take_commands.proofs.CauseLemmas.{not_sink}
 use Rattle.take_commands.proofs.GainLemmas.{gains_all, gains_front, gains_none}
@@ -60,3 +60,5 @@ views_written Said before now (Err (Disk count)) piece said w cause = absurd cau
 views_written Said before now (Err (NotOp1a clause at)) piece said w cause = absurd cause
 views_written Said before now (Err (Past count number)) piece said w cause = absurd cause
 views_written Said before now (Err (Refused number fault)) piece said w cause = absurd cause
+views_written Said before now (Err (NoTake at area)) piece said w cause = absurd cause
+views_written Said before now (Err (Damaged at area)) piece said w cause = absurd cause

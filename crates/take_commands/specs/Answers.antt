@@ -1,4 +1,4 @@
--- The answers of the commands that look at a take (own). docs/FORMATS.md, "Statuses" and "Refusals".
+-- The answers of the commands over a take (own). docs/FORMATS.md, "Statuses" and "Refusals".
 use Rattle.std.specs.Prelude.{ℕ, Result, Ok, Err}
 use Rattle.rec_bytes.specs.declared.status.Status.{Status}
 use Rattle.frame_codec.specs.declared.fault.DecodeFault.{DecodeFault}
@@ -6,11 +6,13 @@ use Rattle.frame_codec.specs.declared.fault.DecodeFault.TheVariants.{Memory, Fra
 use Rattle.frame_syntax.specs.declared.fault.FrameFault.{FrameFault}
 use Rattle.frame_syntax.specs.declared.fault.FrameFault.TheVariants.{FrameShort, NotIcpf, SizeWord, HeadSize, Version, Chroma, Interlace}
 use Rattle.frame_syntax.specs.declared.fault.FrameFault.TheVariants.{Dimensions, Alpha, PictureSize, SliceTable}
+use Rattle.recovery.specs.declared.answer.RecoverFault.{RecoverFault}
+use Rattle.recovery.specs.declared.answer.RecoverFault.TheVariants as recovery
 use Rattle.run_parts.specs.Statuses.{answer, memory_answer, sink_answer}
 use Rattle.slice_codec.specs.declared.fault.SliceFault.{SliceFault}
 use Rattle.slice_codec.specs.declared.fault.SliceFault.TheVariants.{SliceShort, SliceHeader, Index, Parts, BitsEnd, TooLong, RunPast, CoefficientRange}
 use Rattle.take_commands.specs.declared.fault.TakeFault.{TakeFault}
-use Rattle.take_commands.specs.declared.fault.TakeFault.TheVariants.{Memory as NoMemory, Disk, Sink, NotOp1a, Past, Refused}
+use Rattle.take_commands.specs.declared.fault.TakeFault.TheVariants.{Memory as NoMemory, Disk, Sink, NotOp1a, Past, Refused, NoTake, Damaged}
 
 -- the disk failed, and has failed so often
 abbrev pub disk_answer : ℕ → Status
@@ -23,6 +25,21 @@ clause_answer clause at = answer 8 73 at clause
 -- there are so many frames, and this one was asked for
 abbrev pub past_answer : ℕ → ℕ → Status
 past_answer count number = answer 8 93 count number
+
+-- the area of this number is no part of a take, at this place
+abbrev pub no_take_answer : ℕ → ℕ → Status
+no_take_answer at area = answer 8 80 at area
+
+-- the area of this number is damaged, at this place
+abbrev pub damaged_answer : ℕ → ℕ → Status
+damaged_answer at area = answer 8 81 at area
+
+-- why a take isn't recovered
+abbrev pub recover_answer : RecoverFault → Status
+recover_answer recovery.Memory = memory_answer
+recover_answer (recovery.NoTake at other) = no_take_answer at other
+recover_answer (recovery.Damaged at other) = damaged_answer at other
+recover_answer (recovery.DiskFault at) = disk_answer at
 
 -- the refusal of a slice
 abbrev pub slice_number : SliceFault → ℕ
@@ -65,3 +82,5 @@ take_answer (Err (Sink count)) = sink_answer count
 take_answer (Err (NotOp1a clause at)) = clause_answer clause at
 take_answer (Err (Past count number)) = past_answer count number
 take_answer (Err (Refused number fault)) = decode_answer number fault
+take_answer (Err (NoTake at area)) = no_take_answer at area
+take_answer (Err (Damaged at area)) = damaged_answer at area

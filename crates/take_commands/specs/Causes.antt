@@ -1,4 +1,4 @@
--- When each answer of a command that looks at a take may come (own). docs/FORMATS.md, "Statuses".
+-- When each answer of a command over a take may come (own). docs/FORMATS.md, "Statuses".
 use Rattle.std.specs.Prelude.{◌≡◌, ◌≢◌, ◌⊎◌}
 use Rattle.rec_bytes.specs.Faults.{Rose}
 use Rattle.rec_bytes.specs.declared.status.Status.{Status}

@@ -5,7 +5,7 @@ use Rattle.run_parts.specs.Gains.{Gains, Lacks}
 use Rattle.take_disk.specs.Calls.{IfTold}
 use Rattle.take_disk.specs.Held.{Disk}
 
--- what the devices of such a command show: what the disk tells, what was written, and how often each has failed
+-- what the devices of a command over a take show: what the disk tells, what was written, and how often each has failed
 pub record Devices : Type 0 where
   pub told : Option Disk
   pub disk : ℕ

@@ -1,18 +1,19 @@
-//! Why a command that looks at a take ends before it has written all, with the sentence that says it to a person.
+//! Why a command over a take ends before it has written all, with the sentence that says it to a person.
 
 ghost use Rattle.std.specs.Prelude.{◌≡◌};
 ghost use Rattle.take_commands.specs.Answers.{decode_answer, frame_answer, slice_number, take_answer};
-ghost use Rattle.take_commands.specs.inner.Faults.{check_fault, decode_fault, unit_fault};
+ghost use Rattle.take_commands.specs.inner.Faults.{check_fault, decode_fault, recover_fault, unit_fault};
 
 use frame_codec::DecodeFault;
 use frame_syntax::FrameFault;
 use mxf_reader::{CheckFault, UnitFault};
 use rec_bytes::Status;
+use recovery::RecoverFault;
 use run_parts::{MEMORY, refusal};
 use slice_codec::SliceFault;
 use thiserror::Error;
 
-/// Why a command that looks at a take ends before it has written all.
+/// Why a command over a take ends before it has written all.
 #[derive(Clone, Copy, Debug, PartialEq, Eq, Error)]
 pub enum TakeFault {
     /// Memory was wanted.
@@ -33,6 +34,12 @@ pub enum TakeFault {
     /// The frame of this number isn't decoded.
     #[error("frame {number}: {fault}")]
     Refused { number: u64, fault: DecodeFault },
+    /// The commits don't begin with a take's head, up to this byte.
+    #[error("no take: byte {at} of its commits is no part of a head")]
+    NoTake { at: u64, area: u64 },
+    /// The commits break behind their head, or the essence isn't what they say.
+    #[error("the take is damaged at byte {at} of area {area}: 0 is its file, 1 its commits")]
+    Damaged { at: u64, area: u64 },
 }
 
 /// Why a command ends where the take's file isn't read.
@@ -69,6 +76,18 @@ pub(crate) fn decode_fault(number: u64, fault: DecodeFault) -> TakeFault
     }
 }
 
+/// Why a command ends where the take isn't recovered.
+pub(crate) fn recover_fault(fault: RecoverFault) -> TakeFault
+    ensures { result ≡ recover_fault fault }
+{
+    match fault {
+        RecoverFault::Memory => TakeFault::Memory,
+        RecoverFault::NoTake { at, other } => TakeFault::NoTake { at, area: other },
+        RecoverFault::Damaged { at, other } => TakeFault::Damaged { at, area: other },
+        RecoverFault::DiskFault { at } => TakeFault::Disk { count: at },
+    }
+}
+
 /// The answer of a command that ended so.
 pub fn take_status(ended: Result<(), TakeFault>) -> Status
     ensures { result ≡ take_answer ended }
@@ -81,6 +100,8 @@ pub fn take_status(ended: Result<(), TakeFault>) -> Status
         Err(TakeFault::NotOp1a { clause, at }) => refusal(8, 73, at, clause),
         Err(TakeFault::Past { count, number }) => refusal(8, 93, count, number),
         Err(TakeFault::Refused { number, fault }) => decode_status(number, fault),
+        Err(TakeFault::NoTake { at, area }) => refusal(8, 80, at, area),
+        Err(TakeFault::Damaged { at, area }) => refusal(8, 81, at, area),
     }
 }
 
@@ -143,7 +164,7 @@ mod tests {
     // docs/FORMATS.md, "Statuses" and "Refusals".
     #[test]
     fn each_answer_has_its_numbers(rt: HostRuntime) {
-        let faults: [(TakeFault, (u8, u16, u64, u64)); 5] = [
+        let faults: [(TakeFault, (u8, u16, u64, u64)); 7] = [
             (TakeFault::Memory, (1, 1, 0, 0)),
             (TakeFault::Disk { count: 3 }, (6, 83, 3, 0)),
             (TakeFault::Sink { count: 2 }, (7, 117, 2, 0)),
@@ -161,6 +182,8 @@ mod tests {
                 },
                 (8, 93, 6, 9),
             ),
+            (TakeFault::NoTake { at: 5, area: 1 }, (8, 80, 5, 1)),
+            (TakeFault::Damaged { at: 72, area: 0 }, (8, 81, 72, 0)),
         ];
         for (fault, want) in faults {
             assert_eq!(rt; numbers(take_status(Err(fault))), want, "{fault:?}");

@@ -7,7 +7,7 @@ use Rattle.take_disk.specs.Held.{Disk as Holds}
 use Rattle.take_commands.specs.Answers.{take_answer}
 use Rattle.take_commands.specs.Views.{IsCutShort}
 use Rattle.take_commands.specs.declared.fault.TakeFault.{TakeFault}
-use Rattle.take_commands.specs.declared.fault.TakeFault.TheVariants.{Memory, Disk, Sink, NotOp1a, Past, Refused}
+use Rattle.take_commands.specs.declared.fault.TakeFault.TheVariants.{Memory, Disk, Sink, NotOp1a, Past, Refused, NoTake, Damaged}
 
 -- where the disk tells what its essence reads, this holds of it
 abbrev pub OfReads : Option Holds → (List ℕ → Type 0) → Type 0
@@ -21,7 +21,7 @@ IsToWrite Said told piece = OfReads told (λ bytes. Said bytes piece (answer 0 0
 abbrev pub IsToAnswer : (List ℕ → List ℕ → Status → Type 0) → Option Holds → TakeFault → Type 0
 IsToAnswer Said told fault = OfReads told (λ bytes. ¬ IsCutShort (take_answer (Err fault)) → Said bytes [] (take_answer (Err fault)))
 
--- why a part that only reads the disk ends: the disk's count of faults rose to the one that is named, or it stays
+-- why a part that calls the disk alone ends: the disk's count of faults rose to the one that is named, or it stays
 abbrev pub IsDiskFault : ℕ → ℕ → TakeFault → Type 0
 IsDiskFault before now Memory = now ≡ before
 IsDiskFault before now (Disk count) = (count ≡ now) × Rose before now
@@ -29,8 +29,10 @@ IsDiskFault before now (Sink count) = ⊥
 IsDiskFault before now (NotOp1a clause at) = now ≡ before
 IsDiskFault before now (Past count number) = now ≡ before
 IsDiskFault before now (Refused number fault) = now ≡ before
+IsDiskFault before now (NoTake at area) = now ≡ before
+IsDiskFault before now (Damaged at area) = now ≡ before
 
--- a part that only reads the disk: its count of faults stays, or there is a fault that says why it ended
+-- a part that calls the disk alone: its count of faults stays, or there is a fault that says why it ended
 abbrev pub HasDiskCause : {T : Type 0} → ℕ → ℕ → Result T TakeFault → Type 0
 HasDiskCause before now (Ok value) = now ≡ before
 HasDiskCause before now (Err fault) = IsDiskFault before now fault
@@ -44,3 +46,5 @@ HasSinkCause before now (Err (Sink count)) = (count ≡ now) × Rose before now
 HasSinkCause before now (Err (NotOp1a clause at)) = ⊥
 HasSinkCause before now (Err (Past count number)) = ⊥
 HasSinkCause before now (Err (Refused number fault)) = ⊥
+HasSinkCause before now (Err (NoTake at area)) = ⊥
+HasSinkCause before now (Err (Damaged at area)) = ⊥
