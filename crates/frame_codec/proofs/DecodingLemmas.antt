@@ -16,9 +16,9 @@ use Rattle.frame_syntax.specs.Pictures.{Span}
 use Rattle.frame_syntax.specs.Written.{slice_bytes}
 use Rattle.frame_syntax.specs.Frames.{IsFrame, slices_of}
 use Rattle.frame_syntax.specs.declared.frame.FrameParts.{FrameParts}
-use Rattle.frame_codec.specs.Frames.{IsNamed, IsShown, MeansFrame, log2_of, number_of, setup_of, slice_at}
+use Rattle.frame_codec.specs.Frames.{IsNamed, IsShown, MeansFrame, log2_of, number_of, setup_of, slice_at, IsWhole}
 use Rattle.frame_codec.specs.Faults.{IsFirstRefused}
-use Rattle.frame_codec.specs.inner.Decoding.{AreShown, IsWhole}
+use Rattle.frame_codec.specs.inner.Decoding.{AreShown}
 use Rattle.frame_codec.proofs.CodedPictureLemmas.{one_number, next_number, named_fits}
 
 -- some slices are left behind fewer than all

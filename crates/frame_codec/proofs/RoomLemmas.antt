@@ -12,7 +12,8 @@ use Rattle.picture_plane.specs.Slices.{macroblocks, row_count, picture_count}
 use Rattle.picture_plane.specs.laws.WidthLaws.{sum-widths, sum-take_next, counts_of_widths, length-widths-le, IsCount}
 use Rattle.frame_syntax.specs.Headers.{least_head}
 use Rattle.frame_syntax.specs.Written.{frame_room_of}
-use Rattle.frame_codec.specs.inner.Writing.{widths_of, slices_of, width_at, width_before, slice_room, slices_room, room_of}
+use Rattle.frame_codec.specs.Sources.{widths_of, slices_of, width_at, slice_room}
+use Rattle.frame_codec.specs.inner.Writing.{width_before, slices_room, room_of}
 
 -- macroblocks before a place of rows of these widths
 abbrev before : List ℕ → ℕ → ℕ

@@ -11,7 +11,8 @@ use Rattle.picture_plane.specs.Slices.{Size, IsSlice, IsFrameSlice}
 use Rattle.picture_plane.specs.declared.slice_names.SliceName.{SliceName}
 use Rattle.frame_syntax.specs.Written.{joined, lengths, picture_bytes, pictures_bytes}
 use Rattle.frame_codec.specs.Coded.{IsCodedCut}
-use Rattle.frame_codec.specs.inner.Writing.{slices_of, IsNamed, AreFirstSlices, IsPicturePut, ArePicturesPut}
+use Rattle.frame_codec.specs.Sources.{slices_of, IsNamed}
+use Rattle.frame_codec.specs.inner.Writing.{AreFirstSlices, IsPicturePut, ArePicturesPut}
 
 -- one more slice, joined
 pub joined_more : (slices : List (List ℕ)) (slice : List ℕ) → joined (slices ++ slice ∷ []) ≡ joined slices ++ slice

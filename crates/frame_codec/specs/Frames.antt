@@ -51,6 +51,11 @@ pub record IsShown (bytes : List ℕ) (parts : FrameParts) (planes : Planes) (pi
   pub meaning : HasMeaning bytes parts picture n name
   pub shown : Shows planes name meaning.samples
 
+-- the bytes are a frame that loads both matrices or none
+pub record IsWhole (bytes : List ℕ) (parts : FrameParts) : Type 0 where
+  pub frame : IsFrame bytes parts
+  pub matrices : parts.head.load_luma ≡ parts.head.load_chroma
+
 -- the bytes are a frame that loads both matrices or none, and its slices mean what the picture shows
 pub record MeansFrame (bytes : List ℕ) (planes : Planes) : Type 0 where
   pub parts : FrameParts

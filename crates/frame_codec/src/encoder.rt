@@ -5,7 +5,8 @@ ghost use Rattle.rec_bytes.specs.Views.{view};
 ghost use Rattle.picture_plane.specs.Sizes.{size_of};
 ghost use Rattle.frame_codec.specs.Coded.{IsCodedFrame};
 
-use crate::writing::{SliceWriter, put_frame};
+use crate::source::SliceWriter;
+use crate::writing::put_frame;
 use frame_syntax::frame_room;
 use picture_plane::{FrameSize, Picture, picture_slices};
 use rec_bytes::{Config, Memory};
@@ -59,8 +60,10 @@ impl FrameEncoder {
         ensures coded { IsCodedFrame self.old.config picture.now self.new.frame }
         ensures most { length self.new.frame ≤ 2 ^ 28 }
     {
+        let config = self.writer.coder.coding.config;
         self.len = put_frame(
             &mut self.writer,
+            &config,
             picture,
             self.sizes.as_mut_slice(),
             self.buffer.as_mut_slice(),

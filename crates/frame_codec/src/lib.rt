@@ -19,14 +19,19 @@ mod encoder;
 mod encoder_tests;
 mod fault;
 mod laws;
+mod sample_source;
+mod source;
 #[cfg(test)]
 mod tests;
 mod writing;
 
-pub use decoder::decode_frame;
+pub use decoder::{decode_frame, open_frame, picture_of, setup_of};
 pub use encoder::{FrameEncoder, encode_frame};
 pub use fault::DecodeFault;
 pub use laws::{
     coded_frames_are_one, coded_frames_are_short, coded_frames_mean, frames_mean_one,
     refusals_are_one, refused_means_nothing,
 };
+pub use sample_source::{SampleReader, SampleSource};
+pub use source::{SLICE_MOST, SliceSource, SliceWriter, slices_are_short};
+pub use writing::put_frame;

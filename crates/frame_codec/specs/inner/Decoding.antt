@@ -5,16 +5,11 @@ use Rattle.picture_plane.specs.Slices.{picture_count, slices_per_picture}
 use Rattle.picture_plane.specs.declared.slice_names.SliceName.{SliceName}
 use Rattle.slice_codec.specs.Setups.{Setup}
 use Rattle.frame_syntax.specs.Headers.{size_of}
-use Rattle.frame_syntax.specs.Frames.{IsFrame, slices_of}
+use Rattle.frame_syntax.specs.Frames.{slices_of}
 use Rattle.frame_syntax.specs.SlicesLeft.{SlicesLeft}
 use Rattle.frame_syntax.specs.declared.frame.FrameParts.{FrameParts}
 use Rattle.frame_syntax.specs.declared.picture_head.PictureHead.{PictureHead}
 use Rattle.frame_codec.specs.Frames.{setup_of, log2_of, number_of, IsNamed, IsShown}
-
--- the bytes are a frame that loads both matrices or none
-pub record IsWhole (bytes : List ℕ) (parts : FrameParts) : Type 0 where
-  pub frame : IsFrame bytes parts
-  pub matrices : parts.head.load_luma ≡ parts.head.load_chroma
 
 -- the coded picture of this number, and its slices are there
 pub record IsCodedPicture (bytes : List ℕ) (parts : FrameParts) (picture : ℕ) (coded : PictureHead) : Type 0 where

@@ -1,52 +1,27 @@
 -- Coded pictures of which some slices are written, and their room.
 use Rattle.std.specs.Prelude.{◌≡◌, ◌<◌, ℕ, ◌+◌, ◌*◌, ◌/◌, ◌%◌, List, [], ◌++◌, length, take, sum, get_or}
 use Rattle.rec_bytes.specs.Configuration.{Fields}
-use Rattle.rec_bytes.specs.Views.{view}
 use Rattle.picture_plane.specs.Pictures.{Planes}
 use Rattle.picture_plane.specs.Sizes.{size_of}
-use Rattle.picture_plane.specs.Slices.{macroblocks, row_widths, slices_per_picture, IsSlice}
+use Rattle.picture_plane.specs.Slices.{macroblocks}
 use Rattle.picture_plane.specs.declared.slice_names.SliceName.{SliceName}
 use Rattle.frame_syntax.specs.Written.{joined, lengths, picture_bytes, pictures_bytes, picture_room}
 use Rattle.frame_syntax.specs.declared.front.TheConstants.{SLICE_ROOM, MACROBLOCK_ROOM}
 use Rattle.frame_codec.specs.Coded.{IsCodedCut, AreCodedSlices}
-use Rattle.frame_codec.specs.declared.writing.SliceWriter.{SliceWriter}
+use Rattle.frame_codec.specs.Sources.{widths_of, slices_of, IsNamed}
 
--- the configuration of the slices that are written
-abbrev pub fields_of : SliceWriter → Fields
-fields_of writer = view writer.coder.coding.config
-
--- the widths of the slices of a row of macroblocks
-abbrev pub widths_of : Fields → List ℕ
-widths_of fields = row_widths (size_of fields) fields.log2
-
--- slices of a coded picture
-abbrev pub slices_of : Fields → ℕ
-slices_of fields = slices_per_picture (size_of fields) fields.log2
-
--- macroblocks of the n-th slice of a coded picture
-abbrev pub width_at : Fields → ℕ → ℕ
-width_at fields n = get_or (widths_of fields) (n % length (widths_of fields)) 0
-
--- and of the slices before it
+-- macroblocks of the slices before the n-th of a coded picture
 abbrev pub width_before : Fields → ℕ → ℕ
 width_before fields n =
     n / length (widths_of fields) * macroblocks fields.width + sum (take (n % length (widths_of fields)) (widths_of fields))
 
--- the most bytes of the n-th slice of a coded picture
-abbrev pub slice_room : Fields → ℕ → ℕ
-slice_room fields n = SLICE_ROOM + MACROBLOCK_ROOM * width_at fields n
-
--- and of the slices before it
+-- the most bytes of these slices
 abbrev pub slices_room : Fields → ℕ → ℕ
 slices_room fields n = SLICE_ROOM * n + MACROBLOCK_ROOM * width_before fields n
 
 -- the most bytes of a coded picture
 abbrev pub room_of : Fields → ℕ
 room_of fields = picture_room (size_of fields) fields.log2
-
--- the n-th slice of a coded picture is so named
-abbrev pub IsNamed : Fields → ℕ → ℕ → SliceName → Type 0
-IsNamed fields number n name = IsSlice (size_of fields) fields.log2 number n name
 
 -- the first slices of a coded picture
 pub record AreFirstSlices (fields : Fields) (picture : Planes) (number count : ℕ) (slices : List (List ℕ)) : Type 0 where

@@ -8,19 +8,19 @@ use Rattle.frame_codec.proofs.decoder.decode_pictures.Goals as goal
 use Rattle.frame_codec.proofs.decoder.decode_pictures.Goals.{in-Some+in_ok-decode_picture-2, in_default}
 
 pub decode_picture-requires-clause-coded : goal.decode_picture-requires-clause-coded
-decode_picture-requires-clause-coded c =
+decode_picture-requires-clause-coded g c =
     let bytes = c.args.bytes.now in
     let parts = c.args.parts.now in
     first_coded bytes parts c.requires.whole.frame (c.refusals_are_exact.ensures.counted bytes parts c.requires.whole.frame)
 
 pub decode_picture-requires-in-Some-clause-coded : goal.decode_picture-requires-in-Some-clause-coded
-decode_picture-requires-in-Some-clause-coded c =
+decode_picture-requires-in-Some-clause-coded g c =
     let bytes = c.args.bytes.now in
     let parts = c.args.parts.now in
     second_coded bytes parts c.in-Some.second c.requires.whole.frame (c.refusals_are_exact.ensures.counted bytes parts c.requires.whole.frame) c.in-Some.is
 
 pub returns-clause-means : goal.returns-clause-means
-returns-clause-means c =
+returns-clause-means g c =
     let bytes = c.args.bytes.now in
     let parts = c.args.parts.now in
     elim c.match-parts.branch [

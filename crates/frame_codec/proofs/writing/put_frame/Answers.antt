@@ -1,23 +1,23 @@
 use Rattle.std.proofs.Common.{◌≡◌, ◌≤◌, ◌+◌, length, take, ℕ, List, ap, ◌∙◌, arith}
 use Rattle.rec_bytes.specs.Places.{with_bytes}
+use Rattle.rec_bytes.specs.Views.{view}
 use Rattle.picture_plane.specs.Sizes.{size_of}
 use Rattle.slice_codec.specs.Views.{as_setup}
 use Rattle.frame_syntax.specs.Written.{head_of, frame_front, pictures_bytes}
 use Rattle.frame_syntax.specs.declared.frame_head.FrameHead.{FrameHead}
-use Rattle.frame_codec.specs.inner.Writing.{fields_of}
 use Rattle.frame_codec.proofs.RoomLemmas.{frame_room_small}
 use Rattle.frame_codec.proofs.BytesLemmas.{end_of, put_before}
 use Rattle.frame_codec.proofs.FrameLemmas.{front_len, frame_is}
 use Rattle.frame_codec.proofs.writing.put_frame.Goals as goal
 
 pub overflow_cast-end : goal.overflow_cast-end
-overflow_cast-end c =
+overflow_cast-end g c =
     let sized = ap (λ (h : FrameHead). h.head_size) c.head_of-head.ensures in
-    omega (arith, sized, c.from-first_at.ensures, c.put_pictures-end.ensures.most, frame_room_small (fields_of c.args.writer.now) c.ranges-2.ensures)
+    omega (arith, sized, c.from-first_at.ensures, c.put_pictures-end.ensures.most, frame_room_small (view c.args.config.now) c.ranges-2.ensures)
 
 pub returns-clause-coded : goal.returns-clause-coded
-returns-clause-coded c =
-    let fields = fields_of c.args.writer.now in
+returns-clause-coded g c =
+    let fields = view c.args.config.now in
     let setup = c.of-setup.ensures.setup in
     let luma : List ℕ = c.of-setup.result.luma in
     let chroma : List ℕ = c.of-setup.result.chroma in

@@ -1,4 +1,4 @@
-use Rattle.std.proofs.Common.{◌≡◌, ◌+◌, ◌*◌, length, take, ℕ, List, sym, ap, ap₂, subst, ◌∙◌, arith}
+use Rattle.std.proofs.Common.{◌≡◌, ◌+◌, ◌*◌, length, take, ℕ, List, sym, ap, subst, ◌∙◌, arith}
 use Rattle.std.specs.Prelude.{sum}
 use Rattle.std.proofs.lemmas.List.{take_all}
 use Rattle.rec_bytes.specs.Configuration.{Fields}
@@ -6,8 +6,9 @@ use Rattle.rec_bytes.specs.Ranges.{IsInRange}
 use Rattle.rec_bytes.specs.Places.{with_bytes}
 use Rattle.frame_syntax.specs.Written.{joined, lengths, picture_front}
 use Rattle.frame_syntax.specs.laws.LengthLaws.{length-joined, length-picture_front}
-use Rattle.slice_codec.specs.declared.coding.Coding.{Coding}
-use Rattle.frame_codec.specs.inner.Writing.{fields_of, slices_of, slices_room, room_of, AreFirstSlices}
+use Rattle.rec_bytes.specs.Views.{view}
+use Rattle.frame_codec.specs.Sources.{slices_of}
+use Rattle.frame_codec.specs.inner.Writing.{slices_room, room_of, AreFirstSlices}
 use Rattle.frame_codec.proofs.RoomLemmas.{picture_small, room_all}
 use Rattle.frame_codec.proofs.BytesLemmas.{end_of, put_before}
 use Rattle.frame_codec.proofs.writing.put_picture.Goals as goal
@@ -21,17 +22,17 @@ all_listed : (count : ℕ) (sizes : List ℕ) (slices : List (List ℕ)) → len
 all_listed count sizes slices many listed = sym (take_all count sizes (omega (arith, many))) ∙ listed
 
 pub put_slices-end-requires-clause-room : goal.put_slices-end-requires-clause-room
-put_slices-end-requires-clause-room c =
-    omega (arith, c.requires.room, slices_within (fields_of c.args.writer.now) c.args.at (length c.args.sizes.now) c.ranges-2.ensures c.requires.sized)
+put_slices-end-requires-clause-room g c =
+    omega (arith, c.requires.room, slices_within (view c.args.config.now) c.args.at (length c.args.sizes.now) c.ranges-2.ensures c.requires.sized)
 
 pub put_picture_front-requires-clause-few : goal.put_picture_front-requires-clause-few
-put_picture_front-requires-clause-few c =
-    let small = picture_small (fields_of c.args.writer.now) c.ranges-2.ensures in
+put_picture_front-requires-clause-few g c =
+    let small = picture_small (view c.args.config.now) c.ranges-2.ensures in
     omega (arith, small.slices, c.requires.sized, c.put_slices-end.auto.sizes)
 
 pub put_picture_front-requires-clause-sized : goal.put_picture_front-requires-clause-sized
-put_picture_front-requires-clause-sized c =
-    let fields = fields_of c.args.writer.now in
+put_picture_front-requires-clause-sized g c =
+    let fields = view c.args.config.now in
     let put = c.put_slices-end.ensures.put in
     let count : ℕ = length c.args.sizes.now in
     let start : ℕ = c.args.at + 8 + 2 * count in
@@ -54,8 +55,8 @@ put_picture_front-requires-clause-sized c =
     )
 
 pub returns-clause-put : goal.returns-clause-put
-returns-clause-put c =
-    let fields = fields_of c.args.writer.now in
+returns-clause-put g c =
+    let fields = view c.args.config.now in
     let put = c.put_slices-end.ensures.put in
     let count : ℕ = length c.args.sizes.now in
     let start : ℕ = c.args.at + 8 + 2 * count in
@@ -64,7 +65,7 @@ returns-clause-put c =
     let front : List ℕ = picture_front fields.log2 (lengths put.slices) in
     let listed = all_listed count c.put_slices-end.new.sizes put.slices many put.listed in
     let room = slices_within fields c.args.at count c.ranges-2.ensures c.requires.sized in
-    let same = ap₂ (λ (k : Coding) (xs : List ℕ). with_bytes new c.args.at (picture_front k.config.log2 xs)) c.put_slices-end.ensures.kept listed in
+    let same = ap (λ (xs : List ℕ). with_bytes new c.args.at (picture_front fields.log2 xs)) listed in
     let begins : start ≡ c.args.at + length front = omega (arith, length-picture_front fields.log2 (lengths put.slices), ap (length {A = ℕ}) listed, many) in
     record {
       slices = put.slices;
@@ -75,5 +76,5 @@ returns-clause-put c =
     }
 
 pub returns-clause-most : goal.returns-clause-most
-returns-clause-most c =
-    omega (arith, c.put_slices-end.ensures.most, slices_within (fields_of c.args.writer.now) c.args.at (length c.args.sizes.now) c.ranges-2.ensures c.requires.sized)
+returns-clause-most g c =
+    omega (arith, c.put_slices-end.ensures.most, slices_within (view c.args.config.now) c.args.at (length c.args.sizes.now) c.ranges-2.ensures c.requires.sized)

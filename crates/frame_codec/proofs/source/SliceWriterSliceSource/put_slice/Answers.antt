@@ -1,15 +1,15 @@
 use Rattle.std.proofs.Common.{◌≡◌, ◌-◌, length, take, drop, ℕ, List, sym, subst, ◌∙◌, arith}
 use Rattle.std.proofs.lemmas.List.{length-drop, length-take-le}
 use Rattle.picture_plane.specs.Slices.{Size, IsSlice}
+use Rattle.rec_bytes.specs.Views.{view}
 use Rattle.slice_codec.specs.Coded.{IsCodedSlice}
-use Rattle.frame_codec.specs.inner.Writing.{fields_of}
 use Rattle.frame_codec.proofs.BytesLemmas.{drop_mid}
 use Rattle.frame_codec.proofs.SlicesLemmas.{coded_by_any}
-use Rattle.frame_codec.proofs.writing.put_slice.Goals as goal
+use Rattle.frame_codec.proofs.source.SliceWriterSliceSource.put_slice.Goals as goal
 
 pub returns-clause-coded : goal.returns-clause-coded
 returns-clause-coded c = λ name is.
-    let fields = fields_of c.args.writer.now in
+    let fields = view c.args.self.now.coder.coding.config in
     let at : ℕ = c.args.at in
     let out : List ℕ = c.args.out.now in
     let found = c.picture_slice-name in
