@@ -1,5 +1,9 @@
--- What stands while nothing happens to a take.
-use Rattle.std.proofs.Common.{◌≡◌, ℕ, List, take, Option, Some, None, Bool, true, false, ap, subst, refl, ◌∙◌}
+-- What stands while nothing happens to a take, and what an entry changes.
+use Rattle.std.proofs.Common.{◌≡◌, ℕ, ◌+◌, List, [], ◌∷◌, ◌++◌, cond, arith, take, Option, Some, None, Bool, true, false, ap, subst, refl, ◌∙◌}
+use Rattle.std.proofs.lemmas.List.Sums.{sum_by-append}
+use Rattle.take_core.specs.History.{is_published, published_in}
+use Rattle.take_core.specs.declared.entry.Entry.{Entry}
+use Rattle.take_core.specs.declared.entry.Entry.TheVariants as entry
 use Rattle.take_core.specs.declared.snapshot.Phase.TheVariants.{Growing}
 use Rattle.take_disk.specs.Held.{Areas, Leaves}
 use Rattle.take_disk.specs.declared.disk.TakeDisk.{Ghosts}
@@ -32,3 +36,10 @@ over s not_now committed = (committed, λ growing. tailed s.tail refl growing)
     tailed : (tail : Bool) → s.tail ≡ tail → phase_of s ≡ Growing → s.tail ≡ true
     tailed true e growing = e
     tailed false e growing = absurd (not_now (record { growing = growing; idle = (committed growing).0; level = (committed growing).1; no_tail = e }))
+
+-- an entry of durable frames publishes none
+pub published_behind : (history : List Entry) (count : ℕ) → published_in (history ++ entry.Acked count ∷ []) ≡ published_in history
+published_behind history count =
+    let more : published_in (history ++ entry.Acked count ∷ []) ≡ published_in history + 0 =
+    sum_by-append (λ e. cond {A = ℕ} (is_published e) 1 0) history (entry.Acked count ∷ []) in
+    omega arith

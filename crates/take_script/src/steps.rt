@@ -24,6 +24,7 @@ pub fn commit_step<U: TakeUnits, L: TakeLayout, D: TakeDisk + Drop, B: Barrier>(
 ) -> Result<Step, StepFault>
     ensures stepped { IfOk result (IsStep take.old take.new) }
     ensures rests { IfOk result (λ step. step ≡ Step.Nothing → IsCommitted take.old) }
+    ensures kept { (take.new.config ≡ take.old.config) × (published take.new ≡ published take.old) }
 
     ensures stopped { IfErr result (IsStopped take.old take.new) }
     ensures crash { CrashesSafely L.TakeLayout D.TakeDisk (U.units take.old.config) take.old take.new }
@@ -60,6 +61,7 @@ pub fn tail_step<U: TakeUnits, L: TakeLayout, D: TakeDisk + Drop, B: Barrier>(
 ) -> Result<Step, StepFault>
     ensures stepped { IfOk result (IsStep take.old take.new) }
     ensures rests { IfOk result (λ step. step ≡ Step.Nothing → IsOver take.old) }
+    ensures kept { (take.new.config ≡ take.old.config) × (published take.new ≡ published take.old) }
 
     ensures stopped { IfErr result (IsStopped take.old take.new) }
     ensures crash { CrashesSafely L.TakeLayout D.TakeDisk (U.units take.old.config) take.old take.new }
@@ -83,6 +85,7 @@ fn begin<U: TakeUnits, L: TakeLayout, D: TakeDisk + Drop>(
     requires seen { seen ≡ latest take.old.history }
     ensures stepped { IsStep take.old take.new result }
     ensures rests { result ≡ Step.Nothing → acked take.old ≡ published take.old }
+    ensures kept { (take.new.config ≡ take.old.config) × (published take.new ≡ published take.old) }
     ensures crash { CrashesSafely L.TakeLayout D.TakeDisk (U.units take.old.config) take.old take.new }
     ensures cause { D.fault_count take.new.disk ≡ D.fault_count take.old.disk }
 {
@@ -102,6 +105,7 @@ fn settle<U: TakeUnits, L: TakeLayout, D: TakeDisk + Drop, B: Barrier>(
     requires out { IsOut take.old.commit }
     ensures stepped { IfOk result (IsStep take.old take.new) }
     ensures rests { IfOk result (λ step. step ≢ Step.Nothing) }
+    ensures kept { (take.new.config ≡ take.old.config) × (published take.new ≡ published take.old) }
 
     ensures stopped { IfErr result (IsStopped take.old take.new) }
     ensures crash { CrashesSafely L.TakeLayout D.TakeDisk (U.units take.old.config) take.old take.new }
@@ -133,6 +137,7 @@ fn end<U: TakeUnits, L: TakeLayout, D: TakeDisk + Drop>(
     requires opened { take.old.commit ≡ Opened mark }
     ensures stepped { IsStep take.old take.new result }
     ensures rests { result ≢ Step.Nothing }
+    ensures kept { (take.new.config ≡ take.old.config) × (published take.new ≡ published take.old) }
     ensures crash { CrashesSafely L.TakeLayout D.TakeDisk (U.units take.old.config) take.old take.new }
     ensures cause { D.fault_count take.new.disk ≡ D.fault_count take.old.disk }
 {
