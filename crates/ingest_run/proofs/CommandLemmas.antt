@@ -131,7 +131,7 @@ recovery_memory layout here = inr (record {
 pub leaves_same : {L D : Type 0} (layout : Ghosts L) (device : DiskGhosts D) (command : Option Command) (disk : D) → LeavesFor layout device command disk disk
 leaves_same layout device None disk = record { same = refl; lengths = λ area. refl }
 leaves_same layout device (Some Wrap) disk = record { same = refl; lengths = λ area. refl }
-leaves_same layout device (Some Encode) disk = record { same = refl; lengths = λ area. refl }
+leaves_same layout device (Some (Encode workers)) disk = record { same = refl; lengths = λ area. refl }
 leaves_same layout device (Some Recover) disk = (
   told_any (device.told disk) _ (λ held cfg units acked safe. told_any (device.told disk) _ (λ again moment image before left. inl left)),
   told_any (device.told disk) _ (λ held cfg units kept recovers. told_any (device.told disk) _ (λ again moment image before left. inl left)),
@@ -152,7 +152,7 @@ fault_as layout here None NoMemory one refused = (refl, inr refl)
 fault_as layout here (Some command) Faulty one refused = absurd (let none = refused refl in cc)
 fault_as layout here (Some Wrap) NoMemory one refused =
     (refl, run_memory Units IsPassedOn (Wraps layout.closed) layout.growing here.run one (inr (record { ending = Broken (FeedCut 0); feed = no_head Units; nothing = refl; answered = refl })))
-fault_as layout here (Some Encode) NoMemory one refused =
+fault_as layout here (Some (Encode workers)) NoMemory one refused =
     (refl, run_memory Pictures IsEncoded (Encodes layout.closed) layout.growing here.run one (inr (record { ending = Broken (FeedCut 0); feed = no_head Pictures; nothing = refl; answered = refl })))
 fault_as layout here (Some Recover) NoMemory one refused = (refl, recovery_memory layout here.view)
 fault_as layout here (Some Check) NoMemory one refused = (refl, view_memory Checks here.view)
@@ -218,10 +218,10 @@ pub causes_wrap : {S D W : Type 0} (words : List Text) (before now : Around S D 
     → HasFeedCauses before.run.counts now.run.counts status → HasCauses words before now status
 causes_wrap words before now status is c = causes_as words before now status Wrap is (no_words_in now.run.counts.sink status c.answered) c
 
-pub causes_encode : {S D W : Type 0} (words : List Text) (before now : Around S D W) (status : Status) → command_of words ≡ Some Encode
+pub causes_encode : {S D W : Type 0} (words : List Text) (before now : Around S D W) (status : Status) (workers : ℕ) → command_of words ≡ Some (Encode workers)
     → HasPictureCauses before.run.counts now.run.counts status → HasCauses words before now status
-causes_encode words before now status is c =
-    causes_as words before now status Encode is (no_words_in now.run.counts.sink status (⊎_elim (λ a. inl (inl a)) (λ a. inr a) c.answered)) c
+causes_encode words before now status workers is c =
+    causes_as words before now status (Encode workers) is (no_words_in now.run.counts.sink status (⊎_elim (λ a. inl (inl a)) (λ a. inr a) c.answered)) c
 
 pub causes_recover : {S D W : Type 0} (words : List Text) (before now : Around S D W) (status : Status) → command_of words ≡ Some Recover
     → HasTakeCauses before.view now.view status → HasCauses words before now status
@@ -256,7 +256,7 @@ cause_as here None Faulty refused = (record { run = refl; disk = refl }, inl ref
 cause_as here None NoMemory refused = (record { run = refl; disk = refl }, inr refl)
 cause_as here (Some command) Faulty refused = absurd (let none = refused refl in cc)
 cause_as here (Some Wrap) NoMemory refused = record { answered = inl (inl (0, Broken Memory, tt, refl)); devices = memory_devices here.run.counts }
-cause_as here (Some Encode) NoMemory refused = record { answered = inl (0, Broken Memory, tt, refl); devices = memory_devices here.run.counts }
+cause_as here (Some (Encode workers)) NoMemory refused = record { answered = inl (0, Broken Memory, tt, refl); devices = memory_devices here.run.counts }
 cause_as here (Some Recover) NoMemory refused = memory_take here.view
 cause_as here (Some Check) NoMemory refused = memory_take here.view
 cause_as here (Some (Frame number)) NoMemory refused = memory_take here.view

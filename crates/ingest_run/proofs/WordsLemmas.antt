@@ -126,14 +126,14 @@ pub wrap_taken : {Z : Type 0} (words : List (String Z)) (first : String Z) (read
 wrap_taken words first (Ok command) at named is none = rw (is_call_taken wrap words first at named none) (ap Some (sym is))
 wrap_taken words first (Err _) at named is none = tt
 
--- those that `encode` takes
+-- those that `encode` takes, with the workers that they give
 pub encode_taken : {Z : Type 0} (words : List (String Z)) (first : String Z) (read : Result Command WordsFault) → slice_get words 0 ≡ Some first → string_bytes first ≡ codes "encode"
-    → IfOk read (λ command. command ≡ Encode) → OnOk read (fault_of encode (texts words) ≡ [])
+    → IfOk read (λ command. option_map Encode (number_of (codes "workers") encode (texts words)) ≡ Some command) → OnOk read (fault_of encode (texts words) ≡ [])
     → IfOk read (λ command. command_of (texts words) ≡ Some command)
 encode_taken words first (Ok command) at named is none = rw (
   is_call_named wrap words first (codes "encode") at named refl,
   is_call_taken encode words first at named none,
-) (ap Some (sym is))
+) is
 encode_taken words first (Err _) at named is none = tt
 
 -- those that `recover` takes
@@ -161,7 +161,7 @@ check_taken words first (Err _) at named is none = tt
 
 -- and those that `frame` takes, with the number that they give
 pub frame_taken : {Z : Type 0} (words : List (String Z)) (first : String Z) (read : Result Command WordsFault) → slice_get words 0 ≡ Some first → string_bytes first ≡ codes "frame"
-    → IfOk read (λ command. option_map Frame (number_of frame (texts words)) ≡ Some command) → OnOk read (fault_of frame (texts words) ≡ [])
+    → IfOk read (λ command. option_map Frame (number_of (codes "number") frame (texts words)) ≡ Some command) → OnOk read (fault_of frame (texts words) ≡ [])
     → IfOk read (λ command. command_of (texts words) ≡ Some command)
 frame_taken words first (Ok command) at named is none = rw (
   is_call_named wrap words first (codes "frame") at named refl,

@@ -24,7 +24,7 @@ pub record HasNoFault {S D W : Type 0} (before now : Around S D W) : Type 0 wher
 abbrev pub CausesFor : {S D W : Type 0} → Option Command → Around S D W → Around S D W → Status → Type 0
 CausesFor None before now status = HasNoFault before now × IsWordsAnswer status
 CausesFor (Some Wrap) before now status = HasFeedCauses before.run.counts now.run.counts status
-CausesFor (Some Encode) before now status = HasPictureCauses before.run.counts now.run.counts status
+CausesFor (Some (Encode workers)) before now status = HasPictureCauses before.run.counts now.run.counts status
 CausesFor (Some Recover) before now status = HasTakeCauses before.view now.view status
 CausesFor (Some Check) before now status = HasTakeCauses before.view now.view status
 CausesFor (Some (Frame number)) before now status = HasTakeCauses before.view now.view status

@@ -49,7 +49,7 @@ abbrev pub RunsFor : {L S D W : Type 0} → Ghosts L → Option Command → Arou
 RunsFor layout None before now status = (now ≡ before) × IsWordsAnswer status
 RunsFor layout (Some Wrap) before now status =
     (now.disk ≡ before.disk) × Runs (Wraps layout.closed) (KeepsPace Units IsPassedOn layout.growing) before.run now.run status
-RunsFor layout (Some Encode) before now status =
+RunsFor layout (Some (Encode workers)) before now status =
     (now.disk ≡ before.disk) × Runs (Encodes layout.closed) (KeepsPace Pictures IsEncoded layout.growing) before.run now.run status
 RunsFor layout (Some Recover) before now status = (now.feed ≡ before.feed) × RunsRecovery layout before.view now.view status
 RunsFor layout (Some Check) before now status = (now.feed ≡ before.feed) × Views Checks before.view now.view status
@@ -68,7 +68,7 @@ DiskStays device old new = Stays (device.told old) (device.told new) (device.len
 abbrev pub LeavesFor : {L D : Type 0} → Ghosts L → DiskGhosts D → Option Command → D → D → Type 0
 LeavesFor layout device None old new = DiskStays device old new
 LeavesFor layout device (Some Wrap) old new = DiskStays device old new
-LeavesFor layout device (Some Encode) old new = DiskStays device old new
+LeavesFor layout device (Some (Encode workers)) old new = DiskStays device old new
 LeavesFor layout device (Some Recover) old new = StaysSafe layout device old new × StaysOne layout device old new
 LeavesFor layout device (Some Check) old new = DiskStays device old new
 LeavesFor layout device (Some (Frame number)) old new = DiskStays device old new

@@ -57,16 +57,17 @@ unfoldable pub is_call : App → List Text → Bool
 is_call app [] = false
 is_call app (first ∷ rest) = bytes_eq first app.top.name && length (fault_of app (first ∷ rest)) == 0
 
--- the number that the words give to a command
-unfoldable pub number_of : App → List Text → Option ℕ
-number_of app words = option_map (λ text. digits_value 10 (without_leading_plus text)) (one_of (codes "number") (matches_of app words))
+-- the number that the words give to an option of a command
+unfoldable pub number_of : Text → App → List Text → Option ℕ
+number_of option app words = option_map (λ text. digits_value 10 (without_leading_plus text)) (one_of option (matches_of app words))
 
 -- the command that the words call; none where they are faulty
 abbrev pub command_of : List Text → Option Command
 command_of words =
-    if is_call wrap words then Some Wrap else if is_call encode words then Some Encode
+    if is_call wrap words then Some Wrap
+    else if is_call encode words then option_map Encode (number_of (codes "workers") encode words)
     else if is_call recover words then Some Recover
-    else if is_call check words then Some Check else if is_call frame words then option_map Frame (number_of frame words)
+    else if is_call check words then Some Check else if is_call frame words then option_map Frame (number_of (codes "number") frame words)
     else None
 
 -- the value that a word has attached: what follows the option and `=`

@@ -10,6 +10,7 @@ use std::alloc::Global;
 use std::marker::Brand;
 use std::process::Abort;
 use std::test::Fail;
+use std::thread::Threads;
 use take_disk::MemoryDisk;
 
 /// The line of the file of three of the smallest frames.
@@ -26,7 +27,7 @@ const FILL: [u8; 20] =
 type Row<'a> = (&'a str, &'a [(usize, &'a [u8])], (u64, u64));
 
 /// Runs a command over a disk with these bytes, of which these calls fail, and over a sink of which these fail.
-fn looked<N: Feed, R: AllocGlobal + Abort>(
+fn looked<N: Feed, R: AllocGlobal + Threads + Sync + Abort>(
     rt: &R,
     call: &[&str],
     essence: &[u8],
@@ -47,7 +48,7 @@ fn looked<N: Feed, R: AllocGlobal + Abort>(
 
 /// The closed file of three of the smallest frames: its header at 0, metadata at 124, a body at 3,289 with elements at 3,413,
 /// 3,487 and 3,561, the footer at 3,635 with metadata at 3,759 and a segment at 6,924, and the random index pack at 7,097.
-pub(crate) fn small_file<N: Feed, R: AllocGlobal + Abort>(
+pub(crate) fn small_file<N: Feed, R: AllocGlobal + Threads + Sync + Abort>(
     rt: &R,
     feed: &[u8],
 ) -> Result<Vec<u8>, Fail>
@@ -68,7 +69,7 @@ pub(crate) fn cut(alloc: Global, file: &[u8], from: usize, to: usize) -> Result<
 }
 
 /// Whether `check` names the place and the clause of each row, and writes no line.
-fn each_is_named<R: AllocGlobal + Abort>(rt: &R, rows: &[Row]) -> Result<(), Fail> {
+fn each_is_named<R: AllocGlobal + Threads + Sync + Abort>(rt: &R, rows: &[Row]) -> Result<(), Fail> {
     let feed = feed_of(rt.alloc(), 3)?;
     let file = small_file::<Brand, _>(rt, &feed)?;
     for (name, edits, (at, clause)) in rows {

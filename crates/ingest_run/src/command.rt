@@ -15,6 +15,7 @@ use crate::words::{Command, read_command};
 use crate::wrap::wrap;
 use raw_feed::{Feed, MAX_UNIT, Sink, Source, feeds_are_one};
 use rec_bytes::Status;
+use std::thread::Threads;
 use take_commands::{TakeFault, check, frame, recover};
 use take_disk::TakeDisk;
 use take_layout::TakeLayout;
@@ -25,7 +26,7 @@ use take_layout::TakeLayout;
 ///
 /// `RunsCommand` has what each command does and answers, `LeavesFor` what it leaves of the disk. The answer's number, place and second number are those of the refusal
 /// (docs/FORMATS.md, "Refusals").
-pub fn plain<R: AllocGlobal, N: Feed, L: TakeLayout, S: Source<N>, D: TakeDisk, W: Sink>(
+pub fn plain<R: AllocGlobal + Threads + Sync, N: Feed, L: TakeLayout, S: Source<N>, D: TakeDisk, W: Sink>(
     rt: &R,
     words: &[String],
     feed: &mut S,
@@ -47,7 +48,7 @@ pub fn plain<R: AllocGlobal, N: Feed, L: TakeLayout, S: Source<N>, D: TakeDisk, 
 }
 
 /// The same, and how the run ended.
-pub(crate) fn run_words<R: AllocGlobal, N: Feed, L: TakeLayout, S: Source<N>, D: TakeDisk, W: Sink>(
+pub(crate) fn run_words<R: AllocGlobal + Threads + Sync, N: Feed, L: TakeLayout, S: Source<N>, D: TakeDisk, W: Sink>(
     rt: &R,
     words: &[String],
     feed: &mut S,
@@ -68,7 +69,9 @@ pub(crate) fn run_words<R: AllocGlobal, N: Feed, L: TakeLayout, S: Source<N>, D:
     feeds_are_one();
     match read_command(rt.alloc(), words) {
         Ok(Command::Wrap) => wrap::<N, L, S, W>(rt.alloc(), feed, out),
-        Ok(Command::Encode) => encode::<N, L, S, W>(rt.alloc(), feed, out),
+        Ok(Command::Encode { workers }) => {
+            encode::<R, N, L, S, W>(rt, rt.alloc(), workers, feed, out)
+        }
         Ok(Command::Recover) => take_end(recover::<L, D, W>(rt.alloc(), disk, out)),
         Ok(Command::Check) => take_end(check(rt.alloc(), disk, out)),
         Ok(Command::Frame { number }) => {

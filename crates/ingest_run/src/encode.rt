@@ -15,7 +15,7 @@ ghost use Rattle.ingest_run.specs.inner.Steps.{OnItem, IfEnd, ReadsUnit, EndsRea
 
 use crate::ended::{RunFault, run_end};
 use crate::next::{Next, read_end};
-use frame_codec::FrameEncoder;
+use frame_codec::coded_frames_are_short;
 use picture_plane::Picture;
 use raw_feed::{
     Feed, FeedFault, FeedReader, Kind, MAX_UNIT, Sink, Source, Stage, faults_are_placed,
@@ -23,16 +23,22 @@ use raw_feed::{
 };
 use rec_bytes::{Failed, Memory};
 use run_parts::{CommandEnd, FeedEnd, PutFault, TakeFile};
+use slice_workers::WorkerEncoder;
 use std::alloc::Global;
+use std::thread::Threads;
 use take_layout::TakeLayout;
 
-/// Writes the closed file of the frames of a feed's pictures. It keeps memory for one picture, for the longest frame, for the
-/// places of the frames, and for what stands between them.
-pub(crate) fn encode<N: Feed, L: TakeLayout, S: Source<N>, W: Sink>(
+/// Writes the closed file of the frames of a feed's pictures, which so many workers encode. It keeps memory for one picture, for
+/// the longest frame, for what the workers code, for the places of the frames, and for what stands between them.
+pub(crate) fn encode<R: Threads + Sync, N: Feed, L: TakeLayout, S: Source<N>, W: Sink>(
+    rt: &R,
     alloc: Global,
+    workers: u8,
     feed: &mut S,
     out: &mut W,
 ) -> Result<(), RunFault>
+    requires some { 1 ≤ workers }
+    requires few { workers ≤ 64 }
     requires units { (cfg : Fields) (unit : List ℕ) → length unit ≤ MAX_UNIT → L.is_unit cfg unit }
     ensures ran { Runs (Encodes L.closed) (KeepsPace Kind.Pictures IsEncoded L.growing)
         (outside (S.told feed.old) (S.fault_count feed.old) (W.written out.old) (W.fault_count out.old))
@@ -40,16 +46,20 @@ pub(crate) fn encode<N: Feed, L: TakeLayout, S: Source<N>, W: Sink>(
     ensures cause { HasPictureCauses
         (counts (S.fault_count feed.old) (W.fault_count out.old)) (counts (S.fault_count feed.new) (W.fault_count out.new)) (run_answer result) }
 {
-    let ended = encode_pictures::<N, L, S, W>(alloc, feed, out);
+    let ended = encode_pictures::<R, N, L, S, W>(rt, alloc, workers, feed, out);
     run_end(ended, out)
 }
 
 /// Writes the closed file of the frames of the pictures before a feed's end, frame by frame as the pictures are read.
-fn encode_pictures<N: Feed, L: TakeLayout, S: Source<N>, W: Sink>(
+fn encode_pictures<R: Threads + Sync, N: Feed, L: TakeLayout, S: Source<N>, W: Sink>(
+    rt: &R,
     alloc: Global,
+    workers: u8,
     feed: &mut S,
     out: &mut W,
 ) -> Result<CommandEnd, PutFault>
+    requires some { 1 ≤ workers }
+    requires few { workers ≤ 64 }
     requires units { (cfg : Fields) (unit : List ℕ) → length unit ≤ MAX_UNIT → L.is_unit cfg unit }
     ensures ran { Runs (Encodes L.closed) (KeepsPace Kind.Pictures IsEncoded L.growing)
         (outside (S.told feed.old) (S.fault_count feed.old) (W.written out.old) (W.fault_count out.old))
@@ -62,6 +72,7 @@ fn encode_pictures<N: Feed, L: TakeLayout, S: Source<N>, W: Sink>(
     feeds_are_one();
     faults_are_placed();
     readings_grow();
+    coded_frames_are_short();
     let mut reader = match FeedReader::<N>::new(Kind::Pictures, feed) {
         Ok(reader) => reader,
         Err(fault) => return Ok(CommandEnd::Read(FeedEnd::Broken(fault))),
@@ -70,7 +81,7 @@ fn encode_pictures<N: Feed, L: TakeLayout, S: Source<N>, W: Sink>(
         Ok(picture) => picture,
         Err(Memory) => return Err(PutFault::Memory),
     };
-    let mut encoder = match FrameEncoder::new(alloc, reader.config()) {
+    let mut encoder = match WorkerEncoder::new(alloc, reader.config(), workers) {
         Ok(encoder) => encoder,
         Err(Memory) => return Err(PutFault::Memory),
     };
@@ -85,7 +96,7 @@ fn encode_pictures<N: Feed, L: TakeLayout, S: Source<N>, W: Sink>(
     'pictures: loop {
         match next_picture(&mut reader, feed, &mut picture) {
             Ok(Next::Item) => {
-                encoder.encode(&picture);
+                encoder.encode(rt, &picture);
                 match file.put_unit(encoder.frame(), out) {
                     Ok(()) => {}
                     Err(fault) => return Err(fault),

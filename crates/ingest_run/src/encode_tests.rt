@@ -6,6 +6,7 @@ use std::alloc::Global;
 use std::marker::Brand;
 use std::process::Abort;
 use std::test::Fail;
+use std::thread::Threads;
 
 // docs/formats/frames.md, "Smallest frame", with all samples 4: by hand, SMPTE RDD 36. 54 bytes, index 1, four bytes of Y and
 // three of Cb.
@@ -30,7 +31,7 @@ fn pictures_of(alloc: Global, values: &[u16]) -> Result<Vec<u8>, Fail> {
 }
 
 /// Runs `encode`.
-fn encoded<N: Feed, R: AllocGlobal + Abort>(
+fn encoded<N: Feed, R: AllocGlobal + Threads + Sync + Abort>(
     rt: &R,
     bytes: &[u8],
     source_fails: &[u64],
@@ -170,6 +171,40 @@ fn a_device_that_fails_costs_no_frame_that_came_before(rt: HostRuntime) -> Resul
         let whole = feed_of(rt.alloc(), frames)?;
         let (_, file) = wrapped::<Brand, HostRuntime>(&rt, &whole, &[], &[], 10_000)?;
         assert_eq!(rt; Some(written.as_slice()), file.get(..len), "{name}");
+    }
+    Ok(())
+}
+
+/// The feed of so many pictures of noise, 96 by 64, in which no two slices are alike: 72 bytes, and 24,580 for each picture.
+fn noise_of(alloc: Global, pictures: usize) -> Result<Vec<u8>, Fail> {
+    let mut bytes = HEAD.to_vec(alloc)?;
+    put(&mut bytes, 6, b"P");
+    put(&mut bytes, 9, &[96]);
+    put(&mut bytes, 11, &[64]);
+    let mut x = 1u32;
+    for _ in 0..pictures {
+        bytes.extend_from_slice(b"PICT")?;
+        for _ in 0..12_288 {
+            x = x.wrapping_mul(1_664_525).wrapping_add(1_013_904_223);
+            bytes.extend_from_slice(&((x / 4_194_304) as u16).to_be_bytes())?;
+        }
+    }
+    Ok(bytes)
+}
+
+#[test]
+fn the_file_is_the_same_for_any_number_of_workers(rt: HostRuntime) -> Result<(), Fail> {
+    let bytes = noise_of(rt.alloc(), 3)?;
+    let call = ["encode", "--workers", "1"];
+    let (got, one) = ran::<Brand, HostRuntime>(&rt, &call, &bytes, &[], &[], 200_000)?;
+    assert_eq!(rt; got, ((0, 0, 0), 0));
+    // more than of three flat pictures of the least size
+    assert!(rt; one.len() > 7157);
+    for workers in ["3", "8", "64"] {
+        let call = ["encode", "--workers", workers];
+        let (got, file) = ran::<Brand, HostRuntime>(&rt, &call, &bytes, &[], &[], 200_000)?;
+        assert_eq!(rt; got, ((0, 0, 0), 0), "{workers} workers");
+        assert_eq!(rt; file, one, "{workers} workers");
     }
     Ok(())
 }

@@ -148,8 +148,8 @@ picture. No byte is written twice: a frame is written before a byte of the
 next picture is read.
 
 Options:
-  --workers N    from 1 to 64; must be given. Today one thread encodes,
-                 whatever N is. The file is the same for each N.
+  --workers N    how many threads encode a picture, from 1 to 64; must be
+                 given. The file is the same for each N.
 
 Where the feed breaks off or breaks its form (status 3), where it has more
 pictures than its configuration allows (status 10), or where reading fails

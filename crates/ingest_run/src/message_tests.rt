@@ -7,13 +7,14 @@ use raw_feed::{Feed, MemorySink, MemorySource};
 use std::marker::Brand;
 use std::process::Abort;
 use std::test::Fail;
+use std::thread::Threads;
 use take_disk::MemoryDisk;
 
 /// What a program answers and writes, and its messages.
 type Report = (u8, Vec<u8>, Vec<u8>);
 
 /// Runs the program over a feed.
-fn reported<N: Feed, R: AllocGlobal + Abort>(
+fn reported<N: Feed, R: AllocGlobal + Threads + Sync + Abort>(
     rt: &R,
     bytes: &[u8],
     words: &Result<Vec<String>, WordsFault>,

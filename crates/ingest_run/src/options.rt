@@ -11,13 +11,10 @@ use std::alloc::Global;
 
 /// `encode` and its option.
 pub(crate) fn encode_command<'a>(alloc: Global) -> Result<clap::Command<'a>, Memory>
-    ensures { IfOk result (λ command. app_of command ≡ encode) }
+    ensures shape { IfOk result (λ command. app_of command ≡ encode) }
+    ensures workers { IfOk result (AsksNumber (codes "workers") 1 64) }
 {
-    let workers = clap::Arg::new(alloc, "workers")
-        .long("workers")
-        .required(true)
-        .action(ArgAction::Set)
-        .value_parser(clap::value_parser!(u8).range(1..65));
+    let workers = workers_option(alloc);
     let command = clap::Command::new(alloc, "encode").disable_help_flag(true);
     match command.arg(workers) {
         Ok(command) => Ok(command),
@@ -52,7 +49,7 @@ pub(crate) fn check_command<'a>(alloc: Global) -> Result<clap::Command<'a>, Memo
 /// `frame` and its options, of which the second is the number.
 pub(crate) fn frame_command<'a>(alloc: Global) -> Result<clap::Command<'a>, Memory>
     ensures shape { IfOk result (λ command. app_of command ≡ frame) }
-    ensures number { IfOk result AsksNumber }
+    ensures number { IfOk result (AsksNumber (codes "number") 0 4294967295) }
 {
     let dir = dir_option(alloc);
     let number = number_option(alloc);
@@ -64,6 +61,19 @@ pub(crate) fn frame_command<'a>(alloc: Global) -> Result<clap::Command<'a>, Memo
         Ok(command) => Ok(command),
         Err(_) => Err(Memory),
     }
+}
+
+/// How many threads encode.
+fn workers_option<'a>(alloc: Global) -> clap::Arg<'a>
+    ensures rule { rule_of result ≡ workers }
+    ensures option { IsOption (codes "workers") result }
+    ensures takes { TakesNumber 1 64 result }
+{
+    clap::Arg::new(alloc, "workers")
+        .long("workers")
+        .required(true)
+        .action(ArgAction::Set)
+        .value_parser(clap::value_parser!(u8).range(1..65))
 }
 
 /// The folder of a take.
@@ -81,7 +91,7 @@ fn dir_option<'a>(alloc: Global) -> clap::Arg<'a>
 fn number_option<'a>(alloc: Global) -> clap::Arg<'a>
     ensures rule { rule_of result ≡ number }
     ensures option { IsOption (codes "number") result }
-    ensures takes { TakesNumber result }
+    ensures takes { TakesNumber 0 4294967295 result }
 {
     clap::Arg::new(alloc, "number")
         .long("number")

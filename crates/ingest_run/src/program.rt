@@ -17,13 +17,14 @@ use crate::report::report;
 use crate::words::WordsFault;
 use raw_feed::{Feed, MAX_UNIT, Sink, Source, put_all};
 use rec_bytes::Failed;
+use std::thread::Threads;
 use take_disk::TakeDisk;
 use take_layout::TakeLayout;
 
 /// Answers a program's words, or why they can't be read: by a text of help, or by the command that they name. It writes
 /// the fault line, a sentence and how the program is called to the messages, and answers the exit code.
 pub fn run_program<
-    R: AllocGlobal,
+    R: AllocGlobal + Threads + Sync,
     N: Feed,
     L: TakeLayout,
     S: Source<N>,
@@ -56,7 +57,7 @@ pub fn run_program<
 }
 
 /// Answers the words: by a text of help, or by the command that they name.
-fn answer<R: AllocGlobal, N: Feed, L: TakeLayout, S: Source<N>, D: TakeDisk, W: Sink>(
+fn answer<R: AllocGlobal + Threads + Sync, N: Feed, L: TakeLayout, S: Source<N>, D: TakeDisk, W: Sink>(
     rt: &R,
     words: &[String],
     feed: &mut S,

@@ -12,6 +12,7 @@ use std::alloc::Global;
 use std::marker::Brand;
 use std::process::Abort;
 use std::test::Fail;
+use std::thread::Threads;
 use take_disk::{Area, MemoryDisk};
 
 /// What stands behind the head of the commits in docs/formats/commits.md, "Example": three frames in one commit, then the
@@ -32,7 +33,7 @@ const GROWN: usize = 3635;
 type Recovery = (Run, Vec<u8>, Vec<u8>);
 
 /// Recovers a take of these areas, where calls of the disk and of the sink, numbered from 0, fail.
-fn recovered<N: Feed, R: AllocGlobal + Abort>(
+fn recovered<N: Feed, R: AllocGlobal + Threads + Sync + Abort>(
     rt: &R,
     essence: &[u8],
     commits: &[u8],

@@ -8,6 +8,7 @@ use std::alloc::Global;
 use std::marker::Brand;
 use std::process::Abort;
 use std::test::Fail;
+use std::thread::Threads;
 use take_disk::MemoryDisk;
 use take_layout::files_are_one;
 
@@ -81,7 +82,7 @@ pub(crate) fn words_of(alloc: Global, texts: &[&str]) -> Result<Vec<String>, Fai
 
 /// Runs the command of a call where calls of the source and of the sink, numbered from 0, fail. Words that are no command
 /// come first: they take no call of either.
-pub(crate) fn ran<N: Feed, R: AllocGlobal + Abort>(
+pub(crate) fn ran<N: Feed, R: AllocGlobal + Threads + Sync + Abort>(
     rt: &R,
     call: &[&str],
     bytes: &[u8],
@@ -125,7 +126,7 @@ pub(crate) fn ran<N: Feed, R: AllocGlobal + Abort>(
 }
 
 /// Runs `wrap`.
-pub(crate) fn wrapped<N: Feed, R: AllocGlobal + Abort>(
+pub(crate) fn wrapped<N: Feed, R: AllocGlobal + Threads + Sync + Abort>(
     rt: &R,
     bytes: &[u8],
     source_fails: &[u64],

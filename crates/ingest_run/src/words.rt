@@ -1,10 +1,10 @@
 //! The words of a call: which command they name, and whether it takes them.
 
-ghost use Rattle.std.specs.Prelude.{◌≡◌, ◌≢◌, [], true, Some, IfOk, OnOk, option_map};
+ghost use Rattle.std.specs.Prelude.{◌≡◌, ◌≢◌, ◌≤◌, [], true, Some, IfOk, OnOk, codes, option_map};
 ghost use Rattle.clap.specs.Words.{app_of, fault_of, is_simple_and_free};
 ghost use Rattle.ingest_run.specs.Programs.{fault_answer};
 ghost use Rattle.ingest_run.specs.Words.{check, command_of, encode, frame, number_of, recover, texts, wrap};
-ghost use Rattle.ingest_run.specs.inner.Options.{AsksNumber};
+ghost use Rattle.ingest_run.specs.inner.Options.{AsksNumber, HasFewWorkers};
 
 use crate::options::{check_command, encode_command, frame_command, recover_command};
 use clap::error::ErrorKind;
@@ -19,7 +19,10 @@ pub(crate) enum Command {
     /// Write the closed file of a feed of units.
     Wrap,
     /// Write the closed file of the frames of a feed of pictures.
-    Encode,
+    Encode {
+        /// How many threads encode, from 1 to 64.
+        workers: u8,
+    },
     /// Close a take after a stop.
     Recover,
     /// Say what the file of a take holds.
@@ -55,6 +58,7 @@ pub(crate) fn words_status(fault: WordsFault) -> Status
 /// Reads the words of a call, of which the first is the command's name. `Memory` may come at any words.
 pub(crate) fn read_command(alloc: Global, words: &[String]) -> Result<Command, WordsFault>
     ensures named { IfOk result (λ command. command_of (texts words.now) ≡ Some command) }
+    ensures few { IfOk result HasFewWorkers }
     ensures refused { result ≡ Err WordsFault.Faulty → command_of (texts words.now) ≡ None }
 {
     let Some(first) = words.first() else {
@@ -83,15 +87,17 @@ fn read_wrap(alloc: Global, words: &[String]) -> Result<Command, WordsFault>
 
 /// Reads the words of `encode`.
 fn read_encode(alloc: Global, words: &[String]) -> Result<Command, WordsFault>
-    ensures named { IfOk result (λ command. command ≡ Command.Encode) }
+    ensures named { IfOk result (λ command.
+        option_map Command.Encode (number_of (codes "workers") encode (texts words.now)) ≡ Some command) }
+    ensures few { IfOk result HasFewWorkers }
     ensures taken { OnOk result (fault_of encode (texts words.now) ≡ []) }
     ensures refused { result ≡ Err WordsFault.Faulty → fault_of encode (texts words.now) ≢ [] }
 {
     let Ok(command) = encode_command(alloc) else {
         return Err(WordsFault::Memory);
     };
-    take_words(command, words)?;
-    Ok(Command::Encode)
+    let workers = take_workers(command, words)?;
+    Ok(Command::Encode { workers })
 }
 
 /// Reads the words of `recover`.
@@ -122,7 +128,8 @@ fn read_check(alloc: Global, words: &[String]) -> Result<Command, WordsFault>
 
 /// Reads the words of `frame`.
 fn read_frame(alloc: Global, words: &[String]) -> Result<Command, WordsFault>
-    ensures named { IfOk result (λ command. option_map Command.Frame (number_of frame (texts words.now)) ≡ Some command) }
+    ensures named { IfOk result (λ command.
+        option_map Command.Frame (number_of (codes "number") frame (texts words.now)) ≡ Some command) }
     ensures taken { OnOk result (fault_of frame (texts words.now) ≡ []) }
     ensures refused { result ≡ Err WordsFault.Faulty → fault_of frame (texts words.now) ≢ [] }
 {
@@ -133,11 +140,33 @@ fn read_frame(alloc: Global, words: &[String]) -> Result<Command, WordsFault>
     Ok(Command::Frame { number })
 }
 
+/// Lets a command judge the words behind its name, and reads how many workers they give.
+fn take_workers<'a>(command: clap::Command<'a>, words: &'a [String]) -> Result<u8, WordsFault>
+    requires simple { is_simple_and_free (app_of command) ≡ true }
+    requires asks { AsksNumber (codes "workers") 1 64 command }
+    ensures number { IfOk result (λ workers.
+        number_of (codes "workers") (app_of command.entry) (texts words.entry.now) ≡ Some workers) }
+    ensures some { IfOk result (λ workers. 1 ≤ workers) }
+    ensures few { IfOk result (λ workers. workers ≤ 64) }
+    ensures taken { OnOk result (fault_of (app_of command.entry) (texts words.entry.now) ≡ []) }
+    ensures refused { result ≡ Err WordsFault.Faulty
+        → fault_of (app_of command.entry) (texts words.entry.now) ≢ [] }
+{
+    match command.try_get_matches_from(words) {
+        Ok(matches) => match matches.get_one::<u8>("workers") {
+            Some(workers) => Ok(workers),
+            None => Err(WordsFault::Faulty),
+        },
+        Err(error) => Err(words_fault(error.kind())),
+    }
+}
+
 /// Lets a command judge the words behind its name, and reads the number that they give.
 fn take_number<'a>(command: clap::Command<'a>, words: &'a [String]) -> Result<u32, WordsFault>
     requires simple { is_simple_and_free (app_of command) ≡ true }
-    requires asks { AsksNumber command }
-    ensures number { IfOk result (λ number. number_of (app_of command.entry) (texts words.entry.now) ≡ Some number) }
+    requires asks { AsksNumber (codes "number") 0 4294967295 command }
+    ensures number { IfOk result (λ number.
+        number_of (codes "number") (app_of command.entry) (texts words.entry.now) ≡ Some number) }
     ensures taken { OnOk result (fault_of (app_of command.entry) (texts words.entry.now) ≡ []) }
     ensures refused { result ≡ Err WordsFault.Faulty
         → fault_of (app_of command.entry) (texts words.entry.now) ≢ [] }
@@ -220,9 +249,18 @@ mod tests {
     #[test]
     fn encode_takes_workers(rt: HostRuntime) -> Result<(), Fail> {
         let rows: [Row; 16] = [
-            (&["encode", "--workers", "1"], Ok(Command::Encode)),
-            (&["encode", "--workers", "64"], Ok(Command::Encode)),
-            (&["encode", "--workers=3"], Ok(Command::Encode)),
+            (
+                &["encode", "--workers", "1"],
+                Ok(Command::Encode { workers: 1 }),
+            ),
+            (
+                &["encode", "--workers", "64"],
+                Ok(Command::Encode { workers: 64 }),
+            ),
+            (
+                &["encode", "--workers=3"],
+                Ok(Command::Encode { workers: 3 }),
+            ),
             (&["encode"], FAULTY),
             (&["encode", "--workers"], FAULTY),
             (&["encode", "--workers", "0"], FAULTY),

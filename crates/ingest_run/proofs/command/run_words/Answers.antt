@@ -20,17 +20,17 @@ returns-in-Ok-Wrap-clause-cause g c = causes_wrap _ _ _ _ (rw c.in-Ok-Wrap.field
 
 pub returns-in-Ok-Encode-clause-ran : goal.returns-in-Ok-Encode-clause-ran
 returns-in-Ok-Encode-clause-ran g c =
-    runs_as g.L.TakeLayout _ _ _ _ Encode (rw c.in-Ok-Encode.field-0-is at c.in-Ok-Encode.ensures.named) (refl, c.encode.ensures.ran)
+    runs_as g.L.TakeLayout _ _ _ _ (Encode c.in-Ok-Encode.workers) (rw c.in-Ok-Encode.field-0-is at c.in-Ok-Encode.ensures.named) (refl, c.encode.ensures.ran)
 
 pub returns-in-Ok-Encode-clause-time : goal.returns-in-Ok-Encode-clause-time
 returns-in-Ok-Encode-clause-time g c = elapsed_none _ _ _
 
 pub returns-in-Ok-Encode-clause-disk : goal.returns-in-Ok-Encode-clause-disk
 returns-in-Ok-Encode-clause-disk g c =
-    leaves_as g.L.TakeLayout g.D.TakeDisk _ _ _ Encode (rw c.in-Ok-Encode.field-0-is at c.in-Ok-Encode.ensures.named) (record { same = refl; lengths = λ area. refl })
+    leaves_as g.L.TakeLayout g.D.TakeDisk _ _ _ (Encode c.in-Ok-Encode.workers) (rw c.in-Ok-Encode.field-0-is at c.in-Ok-Encode.ensures.named) (record { same = refl; lengths = λ area. refl })
 
 pub returns-in-Ok-Encode-clause-cause : goal.returns-in-Ok-Encode-clause-cause
-returns-in-Ok-Encode-clause-cause g c = causes_encode _ _ _ _ (rw c.in-Ok-Encode.field-0-is at c.in-Ok-Encode.ensures.named) c.encode.ensures.cause
+returns-in-Ok-Encode-clause-cause g c = causes_encode _ _ _ _ c.in-Ok-Encode.workers (rw c.in-Ok-Encode.field-0-is at c.in-Ok-Encode.ensures.named) c.encode.ensures.cause
 
 pub returns-in-Ok-Recover-clause-ran : goal.returns-in-Ok-Recover-clause-ran
 returns-in-Ok-Recover-clause-ran g c =

@@ -100,6 +100,18 @@ pictures-init g c =
       sink = c.in-Ok-put_head.ensures.cause.kept;
     }
 
+pub put_unit-requires-clause-unit : goal.put_unit-requires-clause-unit
+put_unit-requires-clause-unit g c =
+    let kept = c.pictures.invariant in
+    let reads = rw c.in-Ok-Item.field-0-is at c.in-Ok-Item.ensures.picture in
+    let whole = rw c.in-Ok-Item.field-0-is at c.in-Ok-Item.ensures.whole in
+    let coded : IsCodedFrame c.pictures.reader.config c.next_picture.new.picture c.encode.new.self.frame =
+    subst (λ (f : Fields). IsCodedFrame f c.next_picture.new.picture c.encode.new.self.frame) kept.coding c.encode.ensures.coded in
+    let short = c.coded_frames_are_short.ensures c.pictures.reader.config c.next_picture.new.picture c.encode.new.self.frame
+    (record { ranges = reads.ranges; size = whole.size; whole = whole.whole }) coded in
+    let most = short.1 in
+    rw c.frame.ensures (c.requires.units c.pictures.file.config c.encode.new.self.frame (omega arith))
+
 pub returns-in-Err-put_unit-clause-ran : goal.returns-in-Err-put_unit-clause-ran
 returns-in-Err-put_unit-clause-ran g c =
     let met = g.met.L.TakeLayout in

@@ -1,23 +1,20 @@
-use Rattle.std.proofs.Common.{rules, ap, ap₂, Some, codes, true, ◌≡◌, ◌∙◌, pos}
+use Rattle.std.proofs.Common.{ap, ap₂, codes, refl, [], ◌≡◌, ◌∙◌}
+use Rattle.clap.specs.Facts.{args_of, groups_of}
 use Rattle.clap.specs.Simple.{app_of_fields}
-use Rattle.clap.specs.Words.{Rule, app_of, rule_of, new_rule, with_rule, new_app}
-use Rattle.clap.specs.declared.builder.value_parser.ValueParser.TheVariants as vp
-use Rattle.clap.specs.declared.builder.ArgAction.TheVariants.{Set}
-use Rattle.ingest_run.specs.Words.{workers, without_help}
+use Rattle.clap.specs.Words.{app_of, with_rule, new_app}
+use Rattle.ingest_run.specs.Words.{without_help}
+use Rattle.ingest_run.proofs.OptionLemmas.{asks_one, differ}
 use Rattle.ingest_run.proofs.options.encode_command.Goals as goal
 
--- the option before its values were told
-abbrev plain : Rule
-plain = record (new_rule (codes "workers")) { long = Some (codes "workers"); action = Some Set; required = true }
+pub returns-in-Ok-clause-shape : goal.returns-in-Ok-clause-shape
+returns-in-Ok-clause-shape c =
+    let helpless : app_of c.disable_help_flag-command.result ≡ without_help (new_app (codes "encode")) = ap app_of_fields c.disable_help_flag-command.ensures ∙ ap without_help c.new.ensures.app in
+    c.in-Ok.ensures.shape c.workers_option-workers.ensures.option.here ∙ ap₂ with_rule helpless c.workers_option-workers.ensures.rule
 
-pub returns-in-Ok : goal.returns-in-Ok
-returns-in-Ok c =
-    let first : rule_of c.action.result ≡ plain = search rules in
-    let parser_is : c.range.result ≡ vp.Signed (pos 1) (pos 64) = rw c.value_parser.ensures at c.range.ensures in
-    let given = c.value_parser-workers.ensures.given in
-    let others = c.value_parser-workers.ensures.others in
-    let value_parser : c.value_parser-workers.result.value_parser ≡ Some (vp.Signed (pos 1) (pos 64)) = given.1 ∙ ap Some (given.2 ∙ parser_is) in
-    let workers_is : rule_of c.value_parser-workers.result ≡ workers =
-    ap rule_of others ∙ (ap (λ (r : Rule). record r { parser = c.value_parser-workers.result.value_parser }) first ∙ ap (λ p. record plain { parser = p }) value_parser) in
-    let helpless : app_of c.disable_help_flag-command.result ≡ without_help (new_app (codes "encode")) = ap app_of_fields c.disable_help_flag-command.ensures ∙ ap without_help c.new-2.ensures.app in
-    c.in-Ok.ensures.shape (search rules) ∙ ap₂ with_rule helpless workers_is
+pub returns-in-Ok-clause-workers : goal.returns-in-Ok-clause-workers
+returns-in-Ok-clause-workers c = λ m parsed.
+    asks_one c.disable_help_flag-command.result c.in-Ok.command c.workers_option-workers.result (codes "workers") 1 64 c.in-Ok.ensures
+    (rw (c.disable_help_flag-command.ensures, args_of) c.new.ensures.empty.0) (rw (c.disable_help_flag-command.ensures, groups_of) c.new.ensures.empty.1)
+    (rw c.disable_help_flag-command.ensures c.new.ensures.local) (rw c.disable_help_flag-command.ensures c.new.ensures.negates)
+    c.workers_option-workers.ensures.option c.workers_option-workers.ensures.takes
+    (differ (codes "workers") [] refl) (differ (codes "workers") (codes "help") refl) (differ (codes "workers") (codes "version") refl) m parsed

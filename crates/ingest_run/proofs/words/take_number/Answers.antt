@@ -1,4 +1,4 @@
-use Rattle.std.proofs.Common.{◌∙◌, sym}
+use Rattle.std.proofs.Common.{◌∙◌, sym, codes, arith}
 use Rattle.std.specs.Str.Parse.{ParsesUnsigned, ExplainsUnsignedError, HasUnsignedDigitsIfOk}
 use Rattle.ingest_run.specs.Words.{texts}
 use Rattle.clap.specs.Words.{app_of}
@@ -7,14 +7,14 @@ use Rattle.ingest_run.proofs.words.take_number.Goals as goal
 
 pub returns-in-Some-clause-number : goal.returns-in-Some-clause-number
 returns-in-Some-clause-number c =
-    let got = number_given _ (λ u r. ParsesUnsigned 32 10 u r × ExplainsUnsignedError 10 u r × HasUnsignedDigitsIfOk u r)
-    (texts c.args.words.now) c.args.command c.in-Ok.matches c.get_one.result (λ u x g. g.0) (simple_of (app_of c.args.command) c.requires.simple)
+    let got = number_given _ (λ u r. ParsesUnsigned 32 10 u r × ExplainsUnsignedError 10 u r × HasUnsignedDigitsIfOk u r) (codes "number") 32 0 4294967295
+    (texts c.args.words.now) c.args.command c.in-Ok.matches c.get_one.result (λ u x g. g.0) (omega arith) (simple_of (app_of c.args.command) c.requires.simple)
     c.requires.asks c.in-Ok.ensures.parsed c.in-Ok.ensures.matches c.get_one.ensures.value in
-    got.2 ∙ (sym got.1 ∙ c.in-Some.is)
+    got.given ∙ (sym got.read ∙ c.in-Some.is)
 
 pub returns-in-Ok-clause-refused : goal.returns-in-Ok-clause-refused
 returns-in-Ok-clause-refused c = λ _ _.
-    let got = number_given _ (λ u r. ParsesUnsigned 32 10 u r × ExplainsUnsignedError 10 u r × HasUnsignedDigitsIfOk u r)
-    (texts c.args.words.now) c.args.command c.in-Ok.matches c.get_one.result (λ u x g. g.0) (simple_of (app_of c.args.command) c.requires.simple)
+    let got = number_given _ (λ u r. ParsesUnsigned 32 10 u r × ExplainsUnsignedError 10 u r × HasUnsignedDigitsIfOk u r) (codes "number") 32 0 4294967295
+    (texts c.args.words.now) c.args.command c.in-Ok.matches c.get_one.result (λ u x g. g.0) (omega arith) (simple_of (app_of c.args.command) c.requires.simple)
     c.requires.asks c.in-Ok.ensures.parsed c.in-Ok.ensures.matches c.get_one.ensures.value in
-    absurd (none_some c.get_one.result got.0 c.in-None.is got.1)
+    absurd (none_some c.get_one.result got.number c.in-None.is got.read)
