@@ -99,7 +99,7 @@ pub asks_one : (start command : Command) (option : Arg) (name : Text) (low high 
     → IsOption name option → TakesNumber low high option → name ≢ [] → name ≢ codes "help" → name ≢ codes "version" → AsksNumber name low high command
 asks_one start command option name low high added args groups globals negates o takes some help version m parsed =
     let got = one_required_read start command option m added args groups globals negates o.plain o.here o.required o.action o.whole o.least
-        (λ e. some (sym o.named ∙ e)) (not_help option name o.named help version) (vp.Signed (pos low) (pos high)) takes parsed in
+    (λ e. some (sym o.named ∙ e)) (not_help option name o.named help version) (vp.Signed (pos low) (pos high)) takes parsed in
     (got.0, subst (λ (id : Text). one_text (found_of m) id ≡ Some (without_minus got.0)) o.named got.1, got.2)
   where
     not_help : (option : Arg) (name : Text) → option.id.now ≡ name → name ≢ codes "help" → name ≢ codes "version" → IsAuto option → ⊥

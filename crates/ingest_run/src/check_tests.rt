@@ -69,7 +69,10 @@ pub(crate) fn cut(alloc: Global, file: &[u8], from: usize, to: usize) -> Result<
 }
 
 /// Whether `check` names the place and the clause of each row, and writes no line.
-fn each_is_named<R: AllocGlobal + Threads + Sync + Abort>(rt: &R, rows: &[Row]) -> Result<(), Fail> {
+fn each_is_named<R: AllocGlobal + Threads + Sync + Abort>(
+    rt: &R,
+    rows: &[Row],
+) -> Result<(), Fail> {
     let feed = feed_of(rt.alloc(), 3)?;
     let file = small_file::<Brand, _>(rt, &feed)?;
     for (name, edits, (at, clause)) in rows {

@@ -26,13 +26,14 @@ use take_layout::TakeLayout;
 ///
 /// `RunsCommand` has what each command does and answers, `LeavesFor` what it leaves of the disk. The answer's number, place and second number are those of the refusal
 /// (docs/FORMATS.md, "Refusals").
-pub fn plain<R: AllocGlobal + Threads + Sync, N: Feed, L: TakeLayout, S: Source<N>, D: TakeDisk, W: Sink>(
-    rt: &R,
-    words: &[String],
-    feed: &mut S,
-    disk: &mut D,
-    out: &mut W,
-) -> Status
+pub fn plain<
+    R: AllocGlobal + Threads + Sync,
+    N: Feed,
+    L: TakeLayout,
+    S: Source<N>,
+    D: TakeDisk,
+    W: Sink,
+>(rt: &R, words: &[String], feed: &mut S, disk: &mut D, out: &mut W) -> Status
     requires units { (cfg : Fields) (unit : List ℕ) → length unit ≤ MAX_UNIT → L.is_unit cfg unit }
     ensures ran { RunsCommand L.TakeLayout (texts words.now)
         (around S.told S.fault_count D.told D.fault_count W.written W.fault_count feed.old disk.old out.old)
@@ -48,13 +49,14 @@ pub fn plain<R: AllocGlobal + Threads + Sync, N: Feed, L: TakeLayout, S: Source<
 }
 
 /// The same, and how the run ended.
-pub(crate) fn run_words<R: AllocGlobal + Threads + Sync, N: Feed, L: TakeLayout, S: Source<N>, D: TakeDisk, W: Sink>(
-    rt: &R,
-    words: &[String],
-    feed: &mut S,
-    disk: &mut D,
-    out: &mut W,
-) -> Result<(), RunFault>
+pub(crate) fn run_words<
+    R: AllocGlobal + Threads + Sync,
+    N: Feed,
+    L: TakeLayout,
+    S: Source<N>,
+    D: TakeDisk,
+    W: Sink,
+>(rt: &R, words: &[String], feed: &mut S, disk: &mut D, out: &mut W) -> Result<(), RunFault>
     requires units { (cfg : Fields) (unit : List ℕ) → length unit ≤ MAX_UNIT → L.is_unit cfg unit }
     ensures ran { RunsCommand L.TakeLayout (texts words.now)
         (around S.told S.fault_count D.told D.fault_count W.written W.fault_count feed.old disk.old out.old)

@@ -57,13 +57,14 @@ pub fn run_program<
 }
 
 /// Answers the words: by a text of help, or by the command that they name.
-fn answer<R: AllocGlobal + Threads + Sync, N: Feed, L: TakeLayout, S: Source<N>, D: TakeDisk, W: Sink>(
-    rt: &R,
-    words: &[String],
-    feed: &mut S,
-    disk: &mut D,
-    out: &mut W,
-) -> Result<(), RunFault>
+fn answer<
+    R: AllocGlobal + Threads + Sync,
+    N: Feed,
+    L: TakeLayout,
+    S: Source<N>,
+    D: TakeDisk,
+    W: Sink,
+>(rt: &R, words: &[String], feed: &mut S, disk: &mut D, out: &mut W) -> Result<(), RunFault>
     requires units { (cfg : Fields) (unit : List ℕ) → length unit ≤ MAX_UNIT → L.is_unit cfg unit }
     ensures answered { AnswersFor L.TakeLayout (help_of (texts words.now)) (texts words.now)
         (around S.told S.fault_count D.told D.fault_count W.written W.fault_count feed.old disk.old out.old)
