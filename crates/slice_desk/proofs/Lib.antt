@@ -1,0 +1,10 @@
+mod BytesLemmas
+mod CountLemmas
+mod DeskLemmas
+mod FrontLemmas
+mod NameLemmas
+mod NumberLemmas
+mod PictureLemmas
+mod RoomLemmas
+mod ShelfLemmas
+mod SlicesLemmas
