@@ -18,25 +18,21 @@ use take_disk::{Access, FileDisk};
 
 fn main(rt: HostRuntime) -> ExitCode {
     let words = read_words(&rt);
-    ExitCode::from(match open_disk(&rt, &words) {
-        Ok(disk) => run(&rt, &words, disk),
-        Err(Memory) => run(&rt, &Err(WordsFault::Memory), FileDisk::new(None, None)),
-    })
-}
-
-/// Runs the program over standard input, a disk and standard output.
-fn run(rt: &HostRuntime, words: &Result<Vec<String>, WordsFault>, mut disk: FileDisk<File>) -> u8 {
+    let (words, mut disk) = match open_disk(&rt, &words) {
+        Ok(disk) => (words, disk),
+        Err(Memory) => (Err(WordsFault::Memory), FileDisk::new(None, None)),
+    };
     let mut feed = StreamSource::<Brand, _>::new(rt.stdin());
     let mut out = StreamSink::new(rt.stdout());
     let mut messages = StreamSink::new(rt.stderr());
-    run_program::<HostRuntime, Brand, PictureLayout, _, _, _, _>(
-        rt,
-        words,
+    ExitCode::from(run_program::<HostRuntime, Brand, PictureLayout, _, _, _, _>(
+        &rt,
+        &words,
         &mut feed,
         &mut disk,
         &mut out,
         &mut messages,
-    )
+    ))
 }
 
 /// The disk of the take that the words name. Where they name no command over a take it has no files, and no command calls it.
