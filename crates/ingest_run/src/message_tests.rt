@@ -97,7 +97,7 @@ fn a_program_says_its_answer(rt: HostRuntime) -> Result<(), Fail> {
             10_000,
             400,
             0,
-            1180,
+            1174,
             b"ingest_server encode - ",
             b"",
         ),
